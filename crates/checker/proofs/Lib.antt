@@ -1,6 +1,7 @@
--- Laws for the code that checks a table and fills its index. The first file is for the crates above.
+-- Laws for the code that checks a table and fills its index. The first two files are for the crates above.
 -- Assumes nothing.
 pub mod Filled
+pub mod Ready
 mod Searches
 mod Entering
 mod Rules

@@ -6,9 +6,10 @@ ghost use Rattle.table.specs.Syntax.{Record};
 ghost use Rattle.table.specs.Reading.{members_at, every_at, table_in};
 ghost use Rattle.table.specs.Decide.{finite_body, infinite};
 ghost use Rattle.checker.specs.Marks.{is_flagged, Looked};
-ghost use Rattle.records.specs.Entries.{Near, Entered, Filled};
+ghost use Rattle.records.specs.Entries.{Near, Entered};
 
-use kinds::{CHOICE, has_members};
+use crate::index::Indexed;
+use kinds::Kind;
 use octets::octet;
 use records::entry::{Entry, Span, alternatives, optional, parts, unpack};
 
@@ -43,26 +44,20 @@ fn one_flagged(table: &[u8], flags: &[u8; 128], s: Span) -> bool
 fn found(table: &[u8], flags: &[u8; 128], e: Entry) -> bool
     ensures { (x : Record) → Entered table.now e x → result ≡ finite_body (is_flagged flags.now) x.body }
 {
-    if e.simple {
-        return true;
+    match e.kind {
+        Kind::Sequence | Kind::Set => each_flagged(table, flags, parts(table, e)),
+        Kind::Choice => one_flagged(table, flags, alternatives(table, e)),
+        _ => true,
     }
-    if has_members(e.kind) {
-        return each_flagged(table, flags, parts(table, e));
-    }
-    if e.kind == CHOICE {
-        return one_flagged(table, flags, alternatives(table, e));
-    }
-    true
 }
 
-// Marks what is found of the n records, the last first; true if any was.
-fn round(table: &[u8], index: &[u64; 128], flags: &mut [u8; 128], n: usize) -> bool
-    requires { Filled table.now index.now n }
-    ensures { Looked (table_in table.now) (λ u. u < n) flags.old result flags.new }
+// Marks what is found of the records, the last first; true if any was.
+fn round(w: &Indexed, flags: &mut [u8; 128]) -> bool
+    ensures { Looked (table_in w.now.table.now) (λ u. u < w.now.count) flags.old result flags.new }
 {
     let mut more = false;
-    for t in (0..n).rev() {
-        if flags[t] == 0 && found(table, flags, unpack(index[t])) {
+    for t in (0..w.count).rev() {
+        if flags[t] == 0 && found(w.table, flags, unpack(w.index[t])) {
             flags[t] = 1;
             more = true;
         }
@@ -70,15 +65,14 @@ fn round(table: &[u8], index: &[u64; 128], flags: &mut [u8; 128], n: usize) -> b
     more
 }
 
-// The lowest of n records that has none.
-pub(crate) fn lowest(table: &[u8], index: &[u64; 128], n: usize) -> Option<usize>
-    requires { Filled table.now index.now n }
-    ensures { result ≡ if_below n (lowest (infinite (table_in table.now) n) n) }
+// The lowest record that has no finite value.
+pub(crate) fn lowest(w: &Indexed) -> Option<usize>
+    ensures { let n = w.now.count in result ≡ if_below n (lowest (infinite (table_in w.now.table.now) n) n) }
 {
     let mut flags = [0u8; 128];
     loop {
-        let more = round(table, index, &mut flags, n);
-        let lowest = (0..n).find(|&t| flags[t] == 0);
+        let more = round(w, &mut flags);
+        let lowest = (0..w.count).find(|&t| flags[t] == 0);
         if lowest.is_none() {
             return None;
         }

@@ -9,7 +9,8 @@ ghost use Rattle.table.specs.Walk.{like, Named, Straight};
 ghost use Rattle.records.specs.Entries.{unpacked, untagged, Filled};
 ghost use Rattle.checker.specs.Gathering.{like_in, tag_of, StandIns, Gathered, GatheredUnder, Compares, optional_in};
 
-use kinds::SEQUENCE;
+use crate::index::Indexed;
+use kinds::Kind;
 use octets::octet;
 use records::entry::{Span, UNTAGGED, alternatives, first, optional, parts, unpack};
 
@@ -33,26 +34,27 @@ fn lowest_like(index: &[u64; 128], t: usize) -> usize
     (0..t).find(|&u| first_tag(index[u]) == tag).unwrap_or(t)
 }
 
-// For each of n records the one that stands for its first tag.
+// For each record the one that stands for its first tag.
 #[tactic(auto, using(crate::proofs::Alike::like_in_low))]
-pub(crate) fn stand_ins(table: &[u8], index: &[u64; 128], n: usize) -> [u8; 128]
-    requires { Filled table.now index.now n }
-    ensures { (t : ℕ) → t < n → get_or result t 0 ≡ like (table_in table.now) t }
+pub(crate) fn stand_ins(w: &Indexed) -> [u8; 128]
+    ensures { (t : ℕ) → t < w.now.count → get_or result t 0 ≡ like (table_in w.now.table.now) t }
 {
     let mut nodes = [0u8; 128];
-    for t in 0..n {
-        nodes[t] = lowest_like(index, t) as u8;
+    for t in 0..w.count {
+        nodes[t] = lowest_like(w.index, t) as u8;
     }
     nodes
 }
 
-// A table, its index, and what stands for each of its records by its first tag.
+// A table, its index, what stands for each of its records by its first tag, and how many there are.
 #[derive(Clone, Copy)]
 pub(crate) struct Known<'a> {
     pub table: &'a [u8],
     pub index: &'a [u64; 128],
     pub nodes: &'a [u8; 128],
+    pub count: usize,
     ghost octets: { Octets table.now },
+    ghost counted: { count ≡ count_in table.now },
     ghost filled: { Filled table.now index.now (count_in table.now) },
     ghost ready: { StandIns (table_in table.now) (count_in table.now) nodes.now },
     ghost named: { Named (table_in table.now) (count_in table.now) },
@@ -113,12 +115,11 @@ fn is_circular(w: &Known, t: usize) -> bool
     flags[t] != 0
 }
 
-// The lowest of n records that is one.
-pub(crate) fn lowest_circular(w: &Known, n: usize) -> Option<usize>
-    requires { n ≡ count_in w.now.table.now }
-    ensures { result ≡ if_below n (lowest (circular (table_in w.now.table.now) n) n) }
+// The lowest record that is circular.
+pub(crate) fn lowest_circular(w: &Known) -> Option<usize>
+    ensures { let n = w.now.count in result ≡ if_below n (lowest (circular (table_in w.now.table.now) n) n) }
 {
-    (0..n).find(|&t| is_circular(w, t))
+    (0..w.count).find(|&t| is_circular(w, t))
 }
 
 // Whether two of the parts have a first tag in common.
@@ -188,16 +189,16 @@ fn is_sharing(w: &Known, t: usize) -> bool
         return false;
     }
     let s = parts(w.table, e);
-    if e.kind == SEQUENCE {
+    if e.kind == Kind::Sequence {
         return clash_in_a_run(w, s);
     }
     clash(w, s)
 }
 
-// The lowest of n records with such parts.
-pub(crate) fn lowest_sharing(w: &Known, n: usize) -> Option<usize>
-    requires { (n ≡ count_in w.now.table.now) × Straight (table_in w.now.table.now) n }
-    ensures { result ≡ if_below n (lowest (sharing (table_in w.now.table.now) n) n) }
+// The lowest record whose parts share a first tag.
+pub(crate) fn lowest_sharing(w: &Known) -> Option<usize>
+    requires { Straight (table_in w.now.table.now) w.now.count }
+    ensures { let n = w.now.count in result ≡ if_below n (lowest (sharing (table_in w.now.table.now) n) n) }
 {
-    (0..n).find(|&t| is_sharing(w, t))
+    (0..w.count).find(|&t| is_sharing(w, t))
 }

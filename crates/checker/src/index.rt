@@ -1,17 +1,29 @@
 // The index of a table: an entry for each of its records (FORMATS, "Tables").
 ghost use Rattle.std.specs.Prelude.{◌≤◌, ◌<◌, length, ◌≡◌, eqb};
 ghost use Rattle.octets.specs.Tests.{if};
+ghost use Rattle.octets.specs.Numbers.{Octets};
 ghost use Rattle.table.specs.declared.CheckCause.TheVariants.{TableShape};
 ghost use Rattle.table.specs.Reading.{record_end};
-ghost use Rattle.records.specs.Entries.{packed, outermost_in, all_but_last};
+ghost use Rattle.kinds.specs.Kinds.{octet_of};
+ghost use Rattle.records.specs.Entries.{Filled, packed, outermost_in, all_but_last};
 ghost use Rattle.checker.specs.Index.{number_at, scanned, index_in};
 
 use crate::shape::record_end;
 use ber::identifier::code_of;
-use kinds::{CHOICE, constructed};
+use kinds::Kind;
 use octets::{octet, two};
 use records::entry::{LACKING, UNTAGGED};
 use table::{CheckCause, Flaw};
+
+// A table and its index, which has the entries of all its records, as many as `count`.
+#[derive(Clone, Copy)]
+pub(crate) struct Indexed<'a> {
+    pub table: &'a [u8],
+    pub index: &'a [u64; 128],
+    pub count: usize,
+    ghost octets: { Octets table.now },
+    ghost filled: { Filled table.now index.now count },
+}
 
 // The code of the outermost identifier of a record with as many tags, the first at p, simple or not.
 #[tactic(auto, unfolding(records::specs::Entries::outermost_in))]
@@ -31,10 +43,10 @@ fn outermost(table: &[u8], simple: bool, tags: u8, p: usize) -> u32
 }
 
 // How many of `tags` tags of a kind are explicit.
-fn explicit(kind: u8, tags: u8) -> u8
-    ensures { result ≡ if (eqb kind 50) tags (λ _. all_but_last tags) }
+fn explicit(kind: Kind, tags: u8) -> u8
+    ensures { result ≡ if (eqb (octet_of kind) 50) tags (λ _. all_but_last tags) }
 {
-    if kind == CHOICE {
+    if kind == Kind::Choice {
         return tags;
     }
     if tags == 0 {
@@ -45,7 +57,7 @@ fn explicit(kind: u8, tags: u8) -> u8
 
 // An entry as one number.
 #[tactic(auto, unfolding(records::specs::Entries::packed))]
-fn pack(code: u32, own: u16, kind: u8, explicit: u8, simple: bool) -> u64
+fn pack(code: u32, own: u16, kind: Kind, explicit: u8, simple: bool) -> u64
     requires { explicit < 128 }
     ensures { result ≡ packed (record { code = code; own = own; kind = kind; explicit = explicit; simple = simple }) }
 {
@@ -54,7 +66,7 @@ fn pack(code: u32, own: u16, kind: u8, explicit: u8, simple: bool) -> u64
     } else {
         explicit as u64
     };
-    ((high * 256 + kind as u64) * 65536 + own as u64) * 4294967296 + code as u64
+    ((high * 256 + kind.place() as u64) * 65536 + own as u64) * 4294967296 + code as u64
 }
 
 // The entry of the record at o, which is shaped.
@@ -63,11 +75,11 @@ fn entry(table: &[u8], o: usize) -> u64
     requires { (length table.now ≤ 8192) × (0 < record_end table.now o) }
     ensures { result ≡ number_at table.now o }
 {
-    let kind = table[o + 2];
+    let kind = Kind::of(table[o + 2]).unwrap();
     let tags = table[o + 3];
     let p = o + 4;
     let own = p + 3 * tags as usize;
-    let simple = !constructed(kind as usize);
+    let simple = !kind.constructed();
     let code = outermost(table, simple, tags, p);
     pack(code, own as u16, kind, explicit(kind, tags), simple)
 }

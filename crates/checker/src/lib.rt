@@ -4,6 +4,7 @@
 mod finite;
 mod first_tags;
 mod index;
+pub mod passed;
 mod references;
 mod shape;
 mod tags;
@@ -12,10 +13,10 @@ ghost use Rattle.std.specs.Prelude.{◌≡◌};
 ghost use Rattle.table.specs.Verdict.{judge_choices, judge, verdict};
 ghost use Rattle.table.specs.Walk.{Named};
 ghost use Rattle.table.specs.Reading.{table_in};
-ghost use Rattle.records.specs.Entries.{Filled};
 ghost use Rattle.checker.specs.Index.{unless_found, count_after, index_after};
 
 use first_tags::Known;
+use index::Indexed;
 use table::{CheckCause, Flaw};
 
 // Octets of a table.
@@ -38,36 +39,36 @@ fn unless_found(cause: CheckCause, found: Option<usize>) -> Result<(), Flaw>
     }
 }
 
-// The verdict by the rules 4 to 6, on n records that keep the rules 1 to 3 (FORMATS, "Order of refusals").
+// The verdict by the rules 4 to 6, on records that keep the rules 1 to 3 (FORMATS, "Order of refusals").
 #[tactic(auto, unfolding(table::specs::Verdict::judge_choices))]
-fn judge_choices(table: &[u8], index: &[u64; 128], n: usize) -> Result<(), Flaw>
-    requires { Filled table.now index.now n × Named (table_in table.now) n }
-    ensures { result ≡ judge_choices (table_in table.now) n }
+fn judge_choices(w: &Indexed) -> Result<(), Flaw>
+    requires { Named (table_in w.now.table.now) w.now.count }
+    ensures { result ≡ judge_choices (table_in w.now.table.now) w.now.count }
 {
-    let nodes = first_tags::stand_ins(table, index, n);
+    let nodes = first_tags::stand_ins(w);
     let known = Known {
-        table,
-        index,
+        table: w.table,
+        index: w.index,
         nodes: &nodes,
+        count: w.count,
     };
-    let circular = first_tags::lowest_circular(&known, n);
+    let circular = first_tags::lowest_circular(&known);
     unless_found(CheckCause::ChoiceLoop, circular)?;
-    let sharing = first_tags::lowest_sharing(&known, n);
+    let sharing = first_tags::lowest_sharing(&known);
     unless_found(CheckCause::SharedTag, sharing)?;
-    unless_found(CheckCause::NoValue, finite::lowest(table, index, n))
+    unless_found(CheckCause::NoValue, finite::lowest(w))
 }
 
-// The verdict by the rules 2 to 6 on n records.
+// The verdict by the rules 2 to 6.
 #[tactic(auto, unfolding(table::specs::Verdict::judge_choices, table::specs::Verdict::judge))]
-fn judge_records(table: &[u8], index: &[u64; 128], n: usize) -> Result<(), Flaw>
-    requires { Filled table.now index.now n }
-    ensures { result ≡ judge (table_in table.now) n }
+fn judge_records(w: &Indexed) -> Result<(), Flaw>
+    ensures { result ≡ judge (table_in w.now.table.now) w.now.count }
 {
-    let dangling = references::lowest(table, index, n);
+    let dangling = references::lowest(w);
     unless_found(CheckCause::NoRecord, dangling)?;
-    let mistagged = tags::lowest(table, index, n);
+    let mistagged = tags::lowest(w);
     unless_found(CheckCause::WrongTag, mistagged)?;
-    judge_choices(table, index, n)
+    judge_choices(w)
 }
 
 // The check, and the index by which a table that passes is read. Of a table that is refused the records before the refusal of its shape
@@ -85,10 +86,17 @@ pub fn check_into(table: &[u8], index: &mut [u64; 128]) -> Counted
         };
     }
     match index::fill(table, index) {
-        Ok(count) => Counted {
-            verdict: judge_records(table, index, count),
-            count,
-        },
+        Ok(count) => {
+            let w = Indexed {
+                table,
+                index,
+                count,
+            };
+            Counted {
+                verdict: judge_records(&w),
+                count,
+            }
+        }
         Err(flaw) => Counted {
             verdict: Err(flaw),
             count: flaw.place,

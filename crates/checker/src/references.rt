@@ -1,12 +1,13 @@
 // 2: a record number that is not there (FORMATS, "Refusals").
-ghost use Rattle.std.specs.Prelude.{◌≡◌, ◌<◌, leb};
+ghost use Rattle.std.specs.Prelude.{◌≡◌, leb};
 ghost use Rattle.octets.specs.Lists.{any, lowest};
 ghost use Rattle.octets.specs.Numbers.{if_below};
 ghost use Rattle.table.specs.Reading.{every_at, table_in};
 ghost use Rattle.table.specs.Decide.{dangling};
 ghost use Rattle.table.specs.Syntax.{Record, references};
-ghost use Rattle.records.specs.Entries.{Near, Entered, Filled};
+ghost use Rattle.records.specs.Entries.{Near, Entered};
 
+use crate::index::Indexed;
 use octets::octet;
 use records::entry::{Entry, Span, parts, unpack};
 
@@ -28,10 +29,9 @@ fn names_beyond(table: &[u8], e: Entry, n: usize) -> bool
     dangling(table, parts(table, e), n)
 }
 
-// The lowest of n records that names one that is not there.
-pub(crate) fn lowest(table: &[u8], index: &[u64; 128], n: usize) -> Option<usize>
-    requires { Filled table.now index.now n }
-    ensures { result ≡ if_below n (lowest (dangling (table_in table.now) n) n) }
+// The lowest record that has a record number that is not there.
+pub(crate) fn lowest(w: &Indexed) -> Option<usize>
+    ensures { let n = w.now.count in result ≡ if_below n (lowest (dangling (table_in w.now.table.now) n) n) }
 {
-    (0..n).find(|&t| names_beyond(table, unpack(index[t]), n))
+    (0..w.count).find(|&t| names_beyond(w.table, unpack(w.index[t]), w.count))
 }

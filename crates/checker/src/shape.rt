@@ -2,13 +2,11 @@
 ghost use Rattle.std.specs.Prelude.{◌≡◌, ◌<◌, leb};
 ghost use Rattle.octets.specs.Lists.{all};
 ghost use Rattle.octets.specs.Numbers.{unless_zero};
+ghost use Rattle.kinds.specs.Kinds.{octet_of};
 ghost use Rattle.table.specs.Octets.{rising};
 ghost use Rattle.table.specs.Reading.{every_at, numbers_at, counted_end, enumerated_end, members_end, reference_end, own_end, record_end};
 
-use kinds::{
-    BOOLEAN, CHOICE, ENUMERATED, GENERALIZED_TIME, NULL, SEQUENCE, SEQUENCE_OF, SET, SET_OF,
-    UTC_TIME,
-};
+use kinds::Kind;
 use octets::{octet, two};
 
 // Whether each of n octets is at most `most`; the first is at p, each `step` after the one before.
@@ -92,19 +90,20 @@ fn reference_end(table: &[u8], p: usize) -> Option<usize>
     Some(p + 1)
 }
 
-// The end of the own part at p of a kind. The kinds up to NULL and the times have none.
+// The end of the own part at p of a kind. That of the other simple kinds has no octets, and ends
+// at p; no record is of a message's kind.
 #[tactic(auto, using(octets::proofs::Search::tests), unfolding(table::specs::Reading::own_end))]
-fn own_end(table: &[u8], kind: u8, p: usize) -> Option<usize>
+fn own_end(table: &[u8], kind: Kind, p: usize) -> Option<usize>
     requires { (0 < p) × (p < 90000) }
-    ensures { result ≡ unless_zero (own_end table.now kind p) }
+    ensures { result ≡ unless_zero (own_end table.now (octet_of kind) p) }
 {
     match kind {
-        BOOLEAN..=NULL | UTC_TIME | GENERALIZED_TIME => Some(p),
-        ENUMERATED => enumerated_end(table, p),
-        SEQUENCE | SET => members_end(table, p),
-        SEQUENCE_OF | SET_OF => reference_end(table, p),
-        CHOICE => counted_end(table, 1, 1, 16, p),
-        _ => None,
+        Kind::Enumerated => enumerated_end(table, p),
+        Kind::Sequence | Kind::Set => members_end(table, p),
+        Kind::SequenceOf | Kind::SetOf => reference_end(table, p),
+        Kind::Choice => counted_end(table, 1, 1, 16, p),
+        Kind::Message => None,
+        _ => Some(p),
     }
 }
 
@@ -134,5 +133,5 @@ pub(crate) fn record_end(table: &[u8], o: usize) -> Option<usize>
     if !each_at_most(table, 3, 3, o + 4, tags) {
         return None;
     }
-    own_end(table, table[o + 2], own)
+    own_end(table, Kind::of(table[o + 2])?, own)
 }

@@ -6,9 +6,11 @@ ghost use Rattle.table.specs.Syntax.{Record};
 ghost use Rattle.table.specs.Reading.{every_at, table_in};
 ghost use Rattle.table.specs.Fields.{universal_of};
 ghost use Rattle.table.specs.Decide.{wrong_tags, mistagged};
-ghost use Rattle.records.specs.Entries.{tag_place, Entered, Filled};
+ghost use Rattle.kinds.specs.Kinds.{octet_of};
+ghost use Rattle.records.specs.Entries.{tag_place, Entered};
 
-use kinds::{CHOICE, universal};
+use crate::index::Indexed;
+use kinds::Kind;
 use octets::{octet, two};
 use records::entry::{Entry, LACKING, tag_place, unpack};
 
@@ -21,14 +23,14 @@ fn explicit_universal(table: &[u8], e: Entry) -> bool
 }
 
 // Whether the tag at p is a UNIVERSAL one that its kind does not bear.
-fn wrong_own(table: &[u8], kind: u8, p: usize) -> bool
+fn wrong_own(table: &[u8], kind: Kind, p: usize) -> bool
     requires { p < 65536 }
-    ensures { result ≡ (eqb (get_or table.now p 0) 0 && not (eqb (two table.now (p + 1)) (universal_of kind))) }
+    ensures { result ≡ (eqb (get_or table.now p 0) 0 && not (eqb (two table.now (p + 1)) (universal_of (octet_of kind)))) }
 {
     if octet(table, p) != 0 {
         return false;
     }
-    two(table, p + 1) != universal(kind as usize)
+    two(table, p + 1) != kind.universal()
 }
 
 // Whether the tags of a record break the rule.
@@ -41,16 +43,15 @@ fn wrong(table: &[u8], e: Entry) -> bool
     if explicit_universal(table, e) {
         return true;
     }
-    if e.kind == CHOICE {
+    if e.kind == Kind::Choice {
         return false;
     }
     wrong_own(table, e.kind, tag_place(e, e.explicit as usize))
 }
 
-// The lowest of n records with such tags.
-pub(crate) fn lowest(table: &[u8], index: &[u64; 128], n: usize) -> Option<usize>
-    requires { Filled table.now index.now n }
-    ensures { result ≡ if_below n (lowest (mistagged (table_in table.now)) n) }
+// The lowest record with such tags.
+pub(crate) fn lowest(w: &Indexed) -> Option<usize>
+    ensures { let n = w.now.count in result ≡ if_below n (lowest (mistagged (table_in w.now.table.now)) n) }
 {
-    (0..n).find(|&t| wrong(table, unpack(index[t])))
+    (0..w.count).find(|&t| wrong(w.table, unpack(w.index[t])))
 }

@@ -1,3 +1,4 @@
--- Laws of the kinds by their octets.
+-- Laws of the kinds. The first file is for the crates above.
 -- Assumes nothing.
+pub mod Same
 mod Identifiers

@@ -22,10 +22,11 @@ use Rattle.records.specs.declared.entry.Span.{Span}
 use Rattle.records.proofs.Promises.{entered_choice}
 use Rattle.reader.specs.Codes.{first_of, untagged, starts_with, under}
 use Rattle.reader.specs.Ways.{here}
-use Rattle.reader.specs.Records.{Ready, Begins, Finds}
+use Rattle.reader.specs.Records.{Begins, Finds}
 use Rattle.reader.proofs.Begun.{Fit, bare, first_most, fit, nested, nested_all}
 use Rattle.reader.proofs.ItemsWay.{Looking, look_first, look_found, look_down, look_next, look_none, look_back, look_above, look_deep}
 use Rattle.reader.proofs.ItemsWay.{turns_left, fewer_down, fewer_next, fewer_back, search_here, search_other}
+use Rattle.checker.proofs.Ready.{Ready}
 
 every_at_lem : (b : List ℕ) (p n j : ℕ) → j < n → get_or (every_at 1 b p n) j 0 ≡ get_or b (p + j) 0
 unfolding every_at

@@ -17,6 +17,7 @@ use Rattle.table.specs.Syntax.{SequenceOf, SetOf, Choice, Record, Table, is_choi
 use Rattle.table.specs.Octets.{kind}
 use Rattle.table.specs.Rules.{members}
 use Rattle.table.specs.Reading.{body_at, table_in, count_in}
+use Rattle.kinds.specs.Kinds.{octet_of}
 use Rattle.records.specs.Entries.{unpacked}
 use Rattle.records.specs.declared.entry.Entry.{Entry}
 use Rattle.records.proofs.Promises.{kind_choice, entered_kind, entered_members}
@@ -27,12 +28,13 @@ use Rattle.coding.proofs.FirstTags.{good}
 use Rattle.coding.proofs.Refusals.{value_shorter}
 use Rattle.reader.specs.Items.{inside, manner, is_single}
 use Rattle.reader.specs.Items.{read_held}
-use Rattle.reader.specs.Records.{Ready, record_in, IsRecord}
+use Rattle.reader.specs.Records.{record_in, IsRecord}
 use Rattle.reader.specs.Sought.{held}
 use Rattle.reader.specs.Wraps.{read_bare}
 use Rattle.reader.proofs.ItemsKinds.{Kind, kind_held}
 use Rattle.reader.proofs.Spans.{held_body}
 use Rattle.reader.proofs.Tagging.{its_entry, its_record}
+use Rattle.checker.proofs.Ready.{Ready}
 
 pub nil_of : {A : Type 0} (l : List A) → length l ≡ 0 → l ≡ []
 nil_of [] e = refl
@@ -84,10 +86,10 @@ module _ {b index : List ℕ} (R : Ready b index) {w : ℕ} (I : IsRecord b inde
   abbrev r : Record
   r = record_of b w
 
-  pub its_body : body_at b (unpacked w).kind (unpacked w).own ≡ r.body
+  pub its_body : body_at b (octet_of (unpacked w).kind) (unpacked w).own ≡ r.body
   its_body = (its_entry R I).body ∙ ap (λ (x : Record). x.body) (sym (its_record R I))
 
-  pub its_kind : (unpacked w).kind ≡ kind r.body
+  pub its_kind : (octet_of (unpacked w).kind) ≡ kind r.body
   its_kind = entered_kind (its_entry R I) ∙ ap (λ (x : Record). kind x.body) (sym (its_record R I))
 
   pub its_holder : held b w ≡ inside r.body
@@ -111,8 +113,8 @@ module _ {b index : List ℕ} (R : Ready b index) {w : ℕ} (I : IsRecord b inde
       built T (read_value T n) (own_tag r) s g h r.body c (read_bare b n r s) (kind_held T (read_value T n) g h (own_tag r) s r.body l)
 
   module _ (e : Entry) (ee : e ≡ unpacked w) where
-    pub its_choice : eqb e.kind 50 ≡ is_choice r.body
-    its_choice = ap (λ (x : Entry). eqb x.kind 50) ee ∙ kind_choice (its_entry R I)
+    pub its_choice : eqb (octet_of e.kind) 50 ≡ is_choice r.body
+    its_choice = ap (λ (x : Entry). eqb (octet_of x.kind) 50) ee ∙ kind_choice (its_entry R I)
         ∙ ap (λ (x : Record). is_choice x.body) (sym (its_record R I))
 
     pub its_simple : e.simple ≡ not (constructed r.body)

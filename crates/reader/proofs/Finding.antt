@@ -22,6 +22,7 @@ use Rattle.ber.proofs.Codes.{read_code_small}
 use Rattle.ber.proofs.Told.{identifier_read, identifier_refused}
 use Rattle.table.specs.Syntax.{Member, Table}
 use Rattle.table.specs.Reading.{table_in, count_in}
+use Rattle.kinds.specs.Kinds.{octet_of}
 use Rattle.records.specs.Entries.{unpacked}
 use Rattle.records.specs.declared.entry.Entry.{Entry}
 use Rattle.records.specs.declared.entry.Span.{Span}
@@ -29,7 +30,7 @@ use Rattle.coding.specs.Reading.{passes, begun, not_awaited}
 use Rattle.coding.proofs.FirstTags.{good}
 use Rattle.reader.specs.Codes.{under, untagged, starts_with, peeked}
 use Rattle.reader.specs.Items.{Holder, manner, parts_of, Placed, awaits, remains, is_single, first, next}
-use Rattle.reader.specs.Records.{Ready, Known, of_record, of_message, holder_in, Finds}
+use Rattle.reader.specs.Records.{Known, of_record, of_message, holder_in, Finds}
 use Rattle.reader.specs.Sought.{held, place_of, tabled_count, direct, unfit, unfit_cause, Indirect, Sought}
 use Rattle.reader.specs.Ways.{here}
 use Rattle.reader.specs.declared.search.Choice.{Choice as Chosen}
@@ -38,6 +39,7 @@ use Rattle.reader.proofs.Items.{found_of, awaits_found, first_none, first_passes
 use Rattle.reader.proofs.ItemsSearch.{GoodHolder, Tells, tells, search_itself, direct_next, indirect_next}
 use Rattle.reader.proofs.Searching.{Parted, spanned, type_low, clear_turn}
 use Rattle.reader.proofs.Spans.{PartAt, held_body, tabled_some}
+use Rattle.checker.proofs.Ready.{Ready}
 
 -- the refusal of an item that begins no part that is awaited
 pub unfit_is : (h : Holder) (i : ℕ) (came s : List ℕ) (c : ReadingCause) → not_awaited {A = List ℕ} s ≡ refused c (length s)
@@ -101,7 +103,7 @@ module _ {b index : List ℕ} {w : ℕ} {came : List ℕ} {e : Entry} {s : Span}
 
     -- a part that begins with the code itself
     module _ (place : ℕ) (ep : place ≡ direct b H i came code) (l : place < s.count) where
-      abbrev AtPlace : PartAt b H (unpacked w).kind s place
+      abbrev AtPlace : PartAt b H (octet_of (unpacked w).kind) s place
       AtPlace = (spanned D).at place l
 
       first_part : (z : Option Placed) → first (λ x. starts_with (T x.1.type) code) (awaits H i came) ≡ z → place ≡ place_of (tabled_count H) z

@@ -13,17 +13,19 @@ use Rattle.octets.proofs.Tests.{test}
 use Rattle.table.specs.Syntax.{Body, Plain, Sequence, Set, SequenceOf, SetOf, Choice, constructed}
 use Rattle.table.specs.Octets.{kind}
 use Rattle.table.specs.Reading.{table_in}
+use Rattle.kinds.specs.Kinds.{octet_of}
 use Rattle.records.specs.Entries.{unpacked, span_of}
 use Rattle.records.specs.declared.entry.Entry.{Entry}
 use Rattle.records.specs.declared.entry.Span.{Span}
 use Rattle.records.proofs.Promises.{entered_kind}
 use Rattle.reader.specs.Items.{Holder, inside, message, manner, parts_of, is_single, node_size}
 use Rattle.reader.specs.Placing.{kind_of, has_members, is_list, holds_one, onward, node_of, opening_of, said}
-use Rattle.reader.specs.Records.{Ready, Known, of_record, of_message, holder_in}
+use Rattle.reader.specs.Records.{Known, of_record, of_message, holder_in}
 use Rattle.reader.specs.Sought.{held, tabled_count}
 use Rattle.reader.proofs.ItemsSizes.{is_plain}
 use Rattle.reader.proofs.PlacedNodes.{opening_is, node_is}
 use Rattle.reader.proofs.Spans.{Spanned, held_body, its}
+use Rattle.checker.proofs.Ready.{Ready}
 
 kind_inside : (y : Body) → constructed y ≡ true → (kind y ≡ kind_of (inside y)) × (is_plain (inside y) ≡ false)
 unfolding kind kind_of constructed is_plain
@@ -63,11 +65,11 @@ unfolding onward if
 onward_most k p = test (has_members k) (λ c. rw c (omega arith)) λ c. rw c (omega arith)
 
 module _ {b index : List ℕ} (R : Ready b index) {w : ℕ} (K : Known b index w) (holds : (unpacked w).simple ≡ false) where
-  stands_for : ((unpacked w).kind ≡ kind_of (held b w)) × (is_plain (held b w) ≡ false)
+  stands_for : (octet_of (unpacked w).kind ≡ kind_of (held b w)) × (is_plain (held b w) ≡ false)
   unfolding holder_in if kind_of is_plain
   stands_for = go K holds
     where
-      go : Known b index w → (unpacked w).simple ≡ false → ((unpacked w).kind ≡ kind_of (held b w)) × (is_plain (held b w) ≡ false)
+      go : Known b index w → (unpacked w).simple ≡ false → (octet_of (unpacked w).kind ≡ kind_of (held b w)) × (is_plain (held b w) ≡ false)
       go (of_record t h q) n =
           let x = R.filled.entered t h in
           let c = not-false (constructed (table_in b t).body) (sym x.simple ∙ rw q at n) in
@@ -82,24 +84,24 @@ module _ {b index : List ℕ} (R : Ready b index) {w : ℕ} (K : Known b index w
   held_kinded = (some_kind (held b w) held_some).0
 
   module _ (e : Entry) (ee : e ≡ unpacked w) where
-    pub held_kind : e.kind ≡ kind_of (held b w)
-    held_kind = ap (λ (x : Entry). x.kind) ee ∙ stands_for.0
+    pub held_kind : (octet_of e.kind) ≡ kind_of (held b w)
+    held_kind = ap (λ (x : Entry). octet_of x.kind) ee ∙ stands_for.0
 
-    pub held_one : holds_one e.kind ≡ is_single (manner (held b w))
+    pub held_one : holds_one (octet_of e.kind) ≡ is_single (manner (held b w))
     held_one = ap holds_one held_kind ∙ (some_kind (held b w) held_some).1
 
-    module _ (s : Span) (es : s ≡ span_of b e.kind e.own) where
-      pub held_span : Spanned b (held b w) (unpacked w).kind s
-      held_span = its R w K s (es ∙ ap (λ (x : Entry). span_of b x.kind x.own) ee)
+    module _ (s : Span) (es : s ≡ span_of b (octet_of e.kind) e.own) where
+      pub held_span : Spanned b (held b w) (octet_of (unpacked w).kind) s
+      held_span = its R w K s (es ∙ ap (λ (x : Entry). span_of b (octet_of x.kind) x.own) ee)
 
       pub held_few : length (parts_of (held b w)) ≤ 16
       held_few = parts_few (held b w) (omega (arith, held_span.count, held_span.few))
 
-      pub held_node : node_of e.kind s.count ≡ node_size (held b w)
+      pub held_node : node_of (octet_of e.kind) s.count ≡ node_size (held b w)
       held_node = rw (held_kind, held_span.count) (node_is (held b w) held_kinded)
 
-      pub held_opening : opening_of e.kind s.count ≡ said (held b w) 0 []
+      pub held_opening : opening_of (octet_of e.kind) s.count ≡ said (held b w) 0 []
       held_opening = rw (held_kind, held_span.count) (opening_is (held b w) held_kinded)
 
       pub held_onward : (place : ℕ) → place + s.step / 2 ≡ onward (kind_of (held b w)) place
-      held_onward place = rw (es, ← held_kind) (onward_is b e.kind e.own place)
+      held_onward place = rw (es, ← held_kind) (onward_is b (octet_of e.kind) e.own place)

@@ -22,6 +22,7 @@ use Rattle.ber.proofs.Places.{some_at}
 use Rattle.table.specs.Syntax.{Tag, Member, Body, Record, Table, constructed}
 use Rattle.table.specs.Reading.{table_in, count_in}
 use Rattle.table.specs.Passes.{Nested}
+use Rattle.kinds.specs.Kinds.{octet_of}
 use Rattle.records.specs.Entries.{unpacked, untagged, more, outermost_code}
 use Rattle.records.specs.declared.entry.Entry.{Entry}
 use Rattle.records.specs.declared.entry.Span.{Span}
@@ -29,7 +30,7 @@ use Rattle.coding.specs.Reading.{begun, read_value}
 use Rattle.reader.specs.Codes.{first_of, either, starts_with, peeked, hit}
 use Rattle.reader.specs.Items.{Holder, Manner, in_turn, each_once, repeated, single, manner, parts_of, Placed}
 use Rattle.reader.specs.Items.{pending, within, since, first, next}
-use Rattle.reader.specs.Records.{Ready, record_in}
+use Rattle.reader.specs.Records.{record_in}
 use Rattle.reader.specs.Sought.{held, Sought}
 use Rattle.reader.specs.Ways.{Leads, here, wrapped}
 use Rattle.reader.specs.Wraps.{Headed}
@@ -45,6 +46,7 @@ use Rattle.reader.proofs.Finding.{good_held}
 use Rattle.reader.proofs.Spans.{PartAt, awaits_hit}
 use Rattle.reader.proofs.Opening.{octets_drop}
 use Rattle.reader.proofs.Tagging.{record_is}
+use Rattle.checker.proofs.Ready.{Ready}
 
 -- the part at hand, which has not come, is the one that the item begins, if the item begins it
 module _ (f : Placed → Bool) (came : List ℕ) (k : Member) where
@@ -204,7 +206,7 @@ module _ {b index : List ℕ} {w : ℕ} {came : List ℕ} {e : Entry} {s : Span}
       let c = code_of (get_or m 0 0 ∷ []) in
       its_tells t ∙ ap hit (search_itself Records m c its_tells t its_first)
 
-  abbrev PartJ : PartAt b Held (unpacked w).kind s j
+  abbrev PartJ : PartAt b Held (octet_of (unpacked w).kind) s j
   PartJ = (spanned D).at j l
 
   sought_fits : (way : List ℕ) → Sought b Held (since (manner Held) j) came m way (Ok (record { place = j; «record» = t; depth = 0; from = 1 }))

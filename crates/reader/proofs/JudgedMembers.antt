@@ -1,7 +1,7 @@
 -- The items of a record or of a message, judged one after another: what holds before each, and one law for each way out.
 -- Assumes nothing.
 use lib.Dec.{eqb}
-use lib.ListN.{length, get_or, drop, set as set_at, length-drop, length-append, length-set}
+use lib.ListN.{length, get_or, drop, set as set_at, length-drop, length-append}
 use lib.Seq.{drop-drop, drop-append_seam}
 use mathlib.Core.Bool.{Bool, true, false, not, ◌||◌, true≢false}
 use mathlib.Core.List.{List, [], ◌∷◌}
@@ -23,10 +23,12 @@ use Rattle.ber.proofs.Ends.{end_more, end_over, end_broken}
 use Rattle.ber.proofs.Places.{part_to_end}
 use Rattle.table.specs.Syntax.{Plain, Sequence, Set, SequenceOf, SetOf, Choice, Record, Table}
 use Rattle.table.specs.Reading.{table_in}
+use Rattle.kinds.specs.Kinds.{octet_of}
 use Rattle.records.specs.Entries.{unpacked, span_of}
 use Rattle.records.specs.declared.entry.Entry.{Entry}
 use Rattle.records.specs.declared.entry.Span.{Span}
 use Rattle.octets.specs.Permutations.{as_given}
+use Rattle.checker.proofs.Ready.{Ready, ready_by}
 use Rattle.coding.specs.Value.{Value, octets}
 use Rattle.coding.specs.Reading.{begun, not_awaited, read_value}
 use Rattle.coding.proofs.Refusals.{value_shorter}
@@ -37,9 +39,9 @@ use Rattle.reader.specs.Items.{up_to_mandatory, within, left, some_of, remains, 
 use Rattle.reader.specs.Items.{node_size, blank, read_held}
 use Rattle.reader.specs.Placing.{kind_of, onward, node_of}
 use Rattle.reader.specs.Codes.{either}
+use Rattle.reader.specs.Records.{Known, IsRecord, record_in, read_record}
+use Rattle.reader.specs.Sought.{held, unfit, Sound, Sought}
 use Rattle.reader.specs.Judging.{ToJudge}
-use Rattle.reader.specs.Records.{Ready, Known, IsRecord, record_in, read_record}
-use Rattle.reader.specs.Sought.{held, Sound, unfit, Sought}
 use Rattle.reader.specs.Standing.{at_ending, standing}
 use Rattle.reader.specs.Ways.{wrapped}
 use Rattle.reader.specs.Wraps.{Headed}
@@ -57,6 +59,7 @@ use Rattle.reader.proofs.PlacedTurns.{since_onward}
 use Rattle.reader.proofs.Spans.{Spanned}
 use Rattle.reader.proofs.Tagging.{its_record}
 use Rattle.reader.proofs.Told.{told_refused, told_done, tell_refused, tell_done}
+use Rattle.checker.specs.declared.passed.Passed.{Passed}
 
 node_small : (h : Holder) → length (parts_of h) ≤ 16 → node_size h ≤ 20
 unfolding node_size parts_of
@@ -88,13 +91,6 @@ notes_are (inside (Choice ts)) came place last (inl x) = absurd (omega (arith, x
 notes_are (inside (Choice ts)) came place last (inr x) = x.1
 notes_are (message t) came place last (inl x) = absurd (omega (arith, x.0))
 notes_are (message t) came place last (inr x) = x.1
-
-noted_length : (v : Manner) (came : List ℕ) (p : ℕ) → length (noted v came p) ≡ length came
-unfolding noted
-noted_length in_turn came p = refl
-noted_length each_once came p = length-set came p 1
-noted_length repeated came p = refl
-noted_length single came p = refl
 
 noted_clear : (v : Manner) (came : List ℕ) (p : ℕ) → (v ≡ each_once → ⊥) → noted v came p ≡ came
 unfolding noted
@@ -160,7 +156,6 @@ module _ (h : Holder) (i : ℕ) (came : List ℕ) where
 -- before the item at a place of m
 pub record Judging (b : List ℕ) (w : ℕ) (m : List ℕ) (indefinite : Bool) (level : ℕ) (came : List ℕ) (total at j : ℕ) : Type 0 where
   pub one : is_single (manner (held b w)) ≡ true → at < length m
-  pub noted : length came ≡ 16
   pub clear : (manner (held b w) ≡ each_once → ⊥) → (p : ℕ) → get_or came p 0 ≡ 0
   pub going : Going (read_held (table_in b) (read_value (table_in b) level) (held b w) (mode indefinite) m) (table_in b) (read_value (table_in b) level) (held b w)
       (mode indefinite) m at (since (manner (held b w)) j) came total
@@ -218,7 +213,7 @@ pub record Setting : Type 0 where
   pub known : Known b index w
   pub holds : (unpacked w).simple ≡ false
   pub entry : e ≡ unpacked w
-  pub span : s ≡ span_of b e.kind e.own
+  pub span : s ≡ span_of b (octet_of e.kind) e.own
 
 abbrev T : Setting → Table
 T Q = table_in Q.b
@@ -230,10 +225,10 @@ module _ (Q : Setting) where
   no_plain : is_plain (H Q) ≡ false
   no_plain = held_some Q.ready Q.known Q.holds
 
-  kind_is : Q.e.kind ≡ kind_of (H Q)
+  kind_is : (octet_of Q.e.kind) ≡ kind_of (H Q)
   kind_is = held_kind Q.ready Q.known Q.holds Q.e Q.entry
 
-  its_span : Spanned Q.b (H Q) (unpacked Q.w).kind Q.s
+  its_span : Spanned Q.b (H Q) (octet_of (unpacked Q.w).kind) Q.s
   its_span = held_span Q.ready Q.known Q.holds Q.e Q.entry Q.s Q.span
 
   few : length (parts_of (H Q)) ≤ 16
@@ -245,10 +240,10 @@ module _ (Q : Setting) where
   pub count_few : Q.s.count ≤ 16
   count_few = its_span.few
 
-  one_is : (g : Bool) → g ≡ (eqb Q.e.kind 50 || eqb Q.e.kind 51) → is_single (manner (H Q)) ≡ g
+  one_is : (g : Bool) → g ≡ (eqb (octet_of Q.e.kind) 50 || eqb (octet_of Q.e.kind) 51) → is_single (manner (H Q)) ≡ g
   one_is g eg = sym (eg ∙ held_one Q.ready Q.known Q.holds Q.e Q.entry)
 
-  module _ (n : ℕ) (en : n ≡ node_of Q.e.kind Q.s.count) where
+  module _ (n : ℕ) (en : n ≡ node_of (octet_of Q.e.kind) Q.s.count) where
     node_total : n ≡ node_size (H Q)
     node_total = en ∙ held_node Q.ready Q.known Q.holds Q.e Q.entry Q.s Q.span
 
@@ -262,14 +257,13 @@ module _ (Q : Setting) where
         let q : n ≡ cap (node_size (H Q)) = omega (arith, node_total, node_few) in
         record {
           one = one_item;
-          noted = refl;
           clear = λ _. blank_clear;
           going = rw (since_first (manner (H Q))) (going_first (T Q) (read_value (T Q) level) (H Q) (mode indefinite) m n no_plain few q);
         }
 
   pub judging_sound : {m : List ℕ} {indefinite : Bool} {level : ℕ} {came : List ℕ} {total at j : ℕ} → Judging Q.b Q.w m indefinite level came total at j
       → Sound Q.b Q.index Q.w came
-  judging_sound S = record { ready = Q.ready; known = Q.known; noted = S.noted; clear = S.clear }
+  judging_sound S = record { known = Q.known; clear = S.clear }
 
 -- what stands at a place of m
 pub record Turn (Q : Setting) : Type 0 where
@@ -288,16 +282,18 @@ pub record Turn (Q : Setting) : Type 0 where
   pub y : Result (Option ℕ) ReadingCause
   pub stands : y ≡ standing (H Q) (since (manner (H Q)) j) came (end_of indefinite (length m) (drop at m))
 
-abbrev pub setting_of : {b index m way : List ℕ} {w level : ℕ} {e : Entry} {s : Span} → ToJudge b index w m level way → e ≡ unpacked w → s ≡ span_of b e.kind e.own
-    → Setting
-setting_of {b} {index} {w = w} {e = e} {s = s} q ee es =
-    record { b = b; index = index; w = w; e = e; s = s; ready = q.ready; known = q.known; holds = q.holds; entry = ee; span = es }
+abbrev pub setting_of : (x : Passed) {w level : ℕ} {m : List ℕ} {e : Entry} {s : Span} → ToJudge x.octets.now x.index.now w m level → e ≡ unpacked w
+    → s ≡ span_of x.octets.now (octet_of e.kind) e.own → Setting
+setting_of x {w} {e = e} {s = s} q ee es =
+    record { b = x.octets.now; index = x.index.now; w = w; e = e; s = s; ready = ready_by x; known = q.known; holds = q.holds; entry = ee; span = es }
 
-abbrev pub turn_of : {b index m way : List ℕ} {w level : ℕ} {e : Entry} {s : Span} (q : ToJudge b index w m level way) (ee : e ≡ unpacked w) (es : s ≡ span_of b e.kind e.own)
+abbrev pub turn_of : (x : Passed) {w level : ℕ} {m : List ℕ} {e : Entry} {s : Span} (q : ToJudge x.octets.now x.index.now w m level) (ee : e ≡ unpacked w)
+    (es : s ≡ span_of x.octets.now (octet_of e.kind) e.own)
     → {indefinite : Bool} {came : List ℕ} {total at j : ℕ} {y : Result (Option ℕ) ReadingCause} → Octets m → at ≤ length m
-    → Judging b w m indefinite level came total at j → y ≡ standing (held b w) (since (manner (held b w)) j) came (end_of indefinite (length m) (drop at m))
-    → Turn (setting_of q ee es)
-turn_of {m = m} {level = level} q ee es {indefinite} {came} {total} {at} {j} {y} o l s d =
+    → Judging x.octets.now w m indefinite level came total at j
+    → (let h = held x.octets.now w in y ≡ standing h (since (manner h) j) came (end_of indefinite (length m) (drop at m)))
+    → Turn (setting_of x q ee es)
+turn_of x {level = level} {m} q ee es {indefinite} {came} {total} {at} {j} {y} o l s d =
     record {
       m = m;
       indefinite = indefinite;
@@ -376,8 +372,8 @@ module _ {Q : Setting} (P : Turn Q) where
     its_more n = λ A f z. (end_more {A = A} f z P.m P.at P.indefinite E refl (goes_on n)).0
 
     -- what is asked of the part next in turn
-    pub turn_asks : Sound Q.b Q.index Q.w P.came × (Q.s ≡ span_of Q.b (unpacked Q.w).kind (unpacked Q.w).own) × (P.at < length P.m)
-    turn_asks = (judging_sound Q P.so_far, Q.span ∙ ap (λ (x : Entry). span_of Q.b x.kind x.own) Q.entry, there)
+    pub turn_asks : Sound Q.b Q.index Q.w P.came × (Q.s ≡ span_of Q.b (octet_of (unpacked Q.w).kind) (unpacked Q.w).own) × (P.at < length P.m)
+    turn_asks = (judging_sound Q P.so_far, Q.span ∙ ap (λ (x : Entry). span_of Q.b (octet_of x.kind) x.own) Q.entry, there)
       where
         there : P.at < length P.m
         there =
@@ -412,11 +408,10 @@ pub record Comes {Q : Setting} (P : Turn Q) : Type 0 where
   pub depth : ℕ
   pub from : ℕ
   pub is : AtItem Q.b (H Q) P.m P.at (I P) P.came way place type depth from
-  pub ways : length way ≡ 128
 
 -- as it was found
 abbrev pub comes_of : {Q : Setting} (P : Turn Q) → P.y ≡ Ok None → (x : Chosen) (way : List ℕ)
-    → (length way ≡ 128) × Sought Q.b (H Q) (I P) P.came (Rest P) way (Ok x) → Comes P
+    → Sought Q.b (H Q) (I P) P.came (Rest P) way (Ok x) → Comes P
 comes_of P d x way s =
     record {
       item = d;
@@ -425,8 +420,7 @@ comes_of P d x way s =
       type = x.«record»;
       depth = x.depth;
       from = P.at + x.from;
-      is = item_sought x P.low s.1;
-      ways = s.0;
+      is = item_sought x P.low s;
     }
 
 module _ {Q : Setting} {P : Turn Q} (X : Comes P) where
@@ -533,7 +527,7 @@ module _ {Q : Setting} {P : Turn Q} {X : Comes P} (Y : Valued X) where
       grown : last ≡ cap (P.total + cap (length (octets Whole)))
       grown = omega (arith, el, Its.4, wrapped_size X.way X.depth Its.0)
 
-      module _ (k : Bool) (ek : k ≡ (eqb Q.e.kind 50 || eqb Q.e.kind 51)) where
+      module _ (k : Bool) (ek : k ≡ (eqb (octet_of Q.e.kind) 50 || eqb (octet_of Q.e.kind) 51)) where
         -- the only one
         pub judged_one : k ≡ true → judged end last ≡ told P.m size (W P)
         judged_one z =
@@ -543,7 +537,7 @@ module _ {Q : Setting} {P : Turn Q} {X : Comes P} (Y : Valued X) where
             tell_done P.m size (W P) g.value end last g.is value_low g.size
 
         -- before the next one
-        pub judged_turn : k ≡ false → (came' : List ℕ) → Notes Q.e.kind P.came X.place came'
+        pub judged_turn : k ≡ false → (came' : List ℕ) → Notes (octet_of Q.e.kind) P.came X.place came'
             → Judging Q.b Q.w P.m P.indefinite P.level came' last end (X.place + Q.s.step / 2)
         judged_turn z came' ec =
             let y = one_is Q k ek ∙ z in
@@ -552,7 +546,6 @@ module _ {Q : Setting} {P : Turn Q} {X : Comes P} (Y : Valued X) where
             ap (λ (k : ℕ). since (manner (H Q)) k) (onward_is Q X.place) ∙ since_onward (H Q) X.place in
             record {
               one = λ z. absurd (true≢false (sym z ∙ y));
-              noted = ap length a ∙ noted_length (manner (H Q)) P.came X.place ∙ P.so_far.noted;
               clear = λ z p. ap (λ (l : List ℕ). get_or l p 0) (a ∙ noted_clear (manner (H Q)) P.came X.place z) ∙ P.so_far.clear z p;
               going = rw (f, a)
                   (going_turn (W P) (T Q) (R P) (H Q) (mode P.indefinite) P.m P.at (I P) P.came P.total P.so_far.going y

@@ -27,19 +27,22 @@ use Rattle.table.specs.Syntax.{Simple, Boolean, Integer, BitString, OctetString,
 use Rattle.table.specs.Syntax.{Record, Table}
 use Rattle.table.specs.Octets.{kind}
 use Rattle.table.specs.Reading.{body_at, table_in, count_in}
+use Rattle.kinds.specs.Kinds.{octet_of}
+use Rattle.kinds.specs.declared.Kind.TheVariants.{Message}
 use Rattle.records.specs.Entries.{unpacked, Entered}
 use Rattle.records.specs.declared.entry.Entry.{Entry}
+use Rattle.checker.proofs.Ready.{Ready, ready_by}
 use Rattle.coding.specs.Content.{segmented}
 use Rattle.coding.specs.Value.{Value, leaf, Leaf, octets}
 use Rattle.coding.specs.Reading.{read_value, read_message}
 use Rattle.reader.specs.Answers.{judged, unread, cap, told, size}
 use Rattle.reader.specs.Items.{Holder, message}
 use Rattle.reader.specs.Items.{read_held}
-use Rattle.reader.specs.Records.{Ready, IsRecord, Known, of_message, holder_in, read_record}
+use Rattle.reader.specs.Records.{IsRecord, Known, of_message, holder_in, read_record}
 use Rattle.reader.specs.Sought.{held}
-use Rattle.reader.specs.Judging.{ToJudgeValue}
 use Rattle.reader.specs.Leaves.{is_in_segments, read_leaf, read_leaf_in, leaf_size}
 use Rattle.reader.specs.Weights.{size_by}
+use Rattle.reader.specs.Judging.{ToJudgeValue}
 use Rattle.reader.specs.Wraps.{closing, Around, read_bare, Opens}
 use Rattle.reader.specs.declared.answer.Judged.{Judged}
 use Rattle.reader.specs.declared.tags.Inner.{Inner}
@@ -58,6 +61,7 @@ use Rattle.reader.proofs.ValueParts.{contents_within, is_plain, leaf_read, leaf_
 use Rattle.reader.proofs.ValueParts.{no_notes, tags_refused}
 use Rattle.reader.proofs.Wrapping.{closing_refused}
 use Rattle.reader.proofs.ClosedAlike.{closing_size}
+use Rattle.checker.specs.declared.passed.Passed.{Passed}
 
 -- the item is read, its value has `count` octets, and what follows begins at `stop`
 pub record Over (b : List ℕ) (r : Record) (n : ℕ) (p : List ℕ) (at end stop count : ℕ) : Type 0 where
@@ -81,21 +85,17 @@ unsized_by {n} e f =
     test (eqb n 0) (λ t. eqb-true n 0 t)
     λ t. let q : ◌≡◌ {A = Option ℕ} None (Some n) = sym f ∙ e ∙ rw t refl in let z : ◌≡◌ {A = ℕ} 0 1 = cc in absurd (omega arith)
 
-module _ {b : List ℕ} {e : Entry} {r : Record} (X : Entered b e r) (lead : ℕ) (c : List ℕ) (f : is_in_segments lead ≡ true → (e.kind ≡ 3) ⊎ (e.kind ≡ 4)) where
-  by_itself : {n : ℕ} → n ≡ size_by (body_at b e.kind e.own) lead c → (n ≡ 0 → ⊥) → is_in_segments lead ≡ false
-  by_itself {n} en some = test (is_in_segments lead) (λ t. absurd (some (en ∙ sym (none (f t) t)))) (λ t. t)
-    where
-      none : (e.kind ≡ 3) ⊎ (e.kind ≡ 4) → is_in_segments lead ≡ true → 0 ≡ size_by (body_at b e.kind e.own) lead c
-      none (inl q) t = by_parts X lead c q refl t
-      none (inr q) t = by_parts X lead c q refl t
+module _ {b : List ℕ} {e : Entry} {r : Record} (X : Entered b e r) (lead : ℕ) (c : List ℕ) (f : is_in_segments lead ≡ true → (octet_of e.kind ≡ 3) ⊎ (octet_of e.kind ≡ 4)) where
+  by_itself : {n : ℕ} → n ≡ size_by (body_at b (octet_of e.kind) e.own) lead c → (n ≡ 0 → ⊥) → is_in_segments lead ≡ false
+  by_itself en some = test (is_in_segments lead) (λ t. absurd (some (en ∙ by_parts b (octet_of e.kind) e.own lead c (f t) t))) (λ t. t)
 
-  pub sized_done : e.simple ≡ true → {z : Bool} → z ≡ false → (l j i : ℕ) {x : Option ℕ} → x ≡ unless_zero (size_by (body_at b e.kind e.own) lead c)
-      → size_by (body_at b e.kind e.own) lead c < 16386 → x ≡ Some i
-      → judged (length c) i ≡ told c leaf_size (read_leaf_in (body_at b e.kind e.own) (is_in_segments lead) z l j c)
+  pub sized_done : e.simple ≡ true → {z : Bool} → z ≡ false → (l j i : ℕ) {x : Option ℕ} → x ≡ unless_zero (size_by (body_at b (octet_of e.kind) e.own) lead c)
+      → size_by (body_at b (octet_of e.kind) e.own) lead c < 16386 → x ≡ Some i
+      → judged (length c) i ≡ told c leaf_size (read_leaf_in (body_at b (octet_of e.kind) e.own) (is_in_segments lead) z l j c)
   sized_done s {z} o l j i q h g =
       let (en, some) = sized_by q g in
       let w = by_itself en (λ v. some (sym en ∙ v)) in
-      rw w (whole_done X s z l j c o (en ∙ sym (by_whole X lead c w refl)) (λ v. some (sym en ∙ v)) (omega arith))
+      rw w (whole_done X s z l j c o (en ∙ by_whole _ lead c w) (λ v. some (sym en ∙ v)) (omega arith))
 
 -- a string by the number of its kind
 string_kind : (k : Simple) → in_either (segmented k) ≡ true → {n : ℕ} → n ≡ kind (Plain k) → (n ≡ 3) ⊎ (n ≡ 4)
@@ -139,7 +139,7 @@ module _ {b index : List ℕ} {w : ℕ} {m : List ℕ} {first level : ℕ} (X : 
       let z : length m - X.at ≡ length (Rest X) + (length m - X.end) = omega (arith, left_part X, X.under.some, X.under.high) in
       rw z (under_refused c (length (Rest X)) e)
 
-  pub value_unread : (X.entry.kind ≡ 50 → ⊥) → (z : Result Extent ReadingCause) → z ≡ told_length (length (Part X)) (read_length (length (Rest X)) (drop X.from (Part X)))
+  pub value_unread : (octet_of X.entry.kind ≡ 50 → ⊥) → (z : Result Extent ReadingCause) → z ≡ told_length (length (Part X)) (read_length (length (Rest X)) (drop X.from (Part X)))
       → (c : ReadingCause) → z ≡ Err c → unread c (length m - X.at) ≡ Wanted
   value_unread k z az c q =
       item_unfit c (item_unsized X (no_choice X k) c (length (Rest X)) (length_refused (Part X) X.from (length (Rest X)) z az c q))
@@ -147,38 +147,37 @@ module _ {b index : List ℕ} {w : ℕ} {m : List ℕ} {first level : ℕ} (X : 
   -- as the code tells where its contents are: a CHOICE has no length of its own
   abbrev pub Told : Result Extent ReadingCause → Type 0
   Told r =
-      (X.entry.kind ≡ 50 → r ≡ Ok (record { start = X.at; end = X.end; indefinite = false }))
-      × ((X.entry.kind ≡ 50 → ⊥) → (l : ℕ) → r ≡ told_length (length (Part X)) (read_length l (drop X.from (Part X))))
+      (octet_of X.entry.kind ≡ 50 → r ≡ Ok (record { start = X.at; end = X.end; indefinite = false }))
+      × ((octet_of X.entry.kind ≡ 50 → ⊥) → (l : ℕ) → r ≡ told_length (length (Part X)) (read_length l (drop X.from (Part X))))
 
   module _ (r : Result Extent ReadingCause) (t : Told r) where
     pub extent_refused : (c : ReadingCause) → r ≡ Err c → unread c (length m - X.at) ≡ Wanted
     extent_refused c e =
-        test (eqb X.entry.kind 50)
-        (λ k. let q = sym (t.0 (eqb-true X.entry.kind 50 k)) ∙ e in let z : ◌≡◌ {A = ℕ} 0 1 = cc in absurd (omega arith))
-        λ k. let n = eqb-false X.entry.kind 50 k in value_unread n r (t.1 n _) c e
+        test (eqb (octet_of X.entry.kind) 50)
+        (λ k. let q = sym (t.0 (eqb-true (octet_of X.entry.kind) 50 k)) ∙ e in let z : ◌≡◌ {A = ℕ} 0 1 = cc in absurd (omega arith))
+        λ k. let n = eqb-false (octet_of X.entry.kind) 50 k in value_unread n r (t.1 n _) c e
 
     pub extent_read : (x : Extent) → r ≡ Ok x → Within (record_of b w) (Part X) X.at X.end x.start x.end x.indefinite
     extent_read x e =
-        test (eqb X.entry.kind 50)
+        test (eqb (octet_of X.entry.kind) 50)
         (λ k.
-        let n = eqb-true X.entry.kind 50 k in
+        let n = eqb-true (octet_of X.entry.kind) 50 k in
         let q = same_extent (sym (t.0 n) ∙ e) in
         subst (λ (y : Extent). Within (record_of b w) (Part X) X.at X.end y.start y.end y.indefinite) q (contents_bare X n))
-        λ k. let n = eqb-false X.entry.kind 50 k in contents_sized X n r (t.1 n _) x e
+        λ k. let n = eqb-false (octet_of X.entry.kind) 50 k in contents_sized X n r (t.1 n _) x e
 
-abbrev pub item_of : {b index m : List ℕ} {w at from level : ℕ} {way : List ℕ} → ToJudgeValue b index w m at from level way → {e : Entry} → e ≡ unpacked w → Octets m
-    → (notes : List ℕ) (x : Inner) → length notes ≡ 4 → Under b (record_of b w) m at (take (unpacked w).explicit notes) x.at x.from x.end
-    → Item b index w m at level
-item_of q {e} ee o notes x h u =
+abbrev pub item_of : (p : Passed) {w at from level : ℕ} {m : List ℕ} {e : Entry} → ToJudgeValue p.octets.now p.index.now w m at from level → e ≡ unpacked w
+    → Octets m → (notes : List ℕ) (x : Inner)
+    → Under p.octets.now (record_of p.octets.now w) m at (take (unpacked w).explicit notes) x.at x.from x.end → Item p.octets.now p.index.now w m at level
+item_of p {e = e} q ee o notes x u =
     record {
-      ready = q.ready;
+      ready = ready_by p;
       known = q.is;
       all_octets = o;
       short = q.short;
       entry = e;
       entered = ee;
       notes = notes;
-      four = h;
       at = x.at;
       from = x.from;
       end = x.end;
@@ -195,16 +194,16 @@ module _ {b index : List ℕ} {w : ℕ} {m : List ℕ} {first level : ℕ} (Y : 
     abbrev Lead : ℕ
     Lead = get_or m Y.item.at 0
 
-    pub leaf_kind_lem : is_in_segments Lead ≡ true → (Y.item.entry.kind ≡ 3) ⊎ (Y.item.entry.kind ≡ 4)
+    pub leaf_kind_lem : is_in_segments Lead ≡ true → (octet_of Y.item.entry.kind ≡ 3) ⊎ (octet_of Y.item.entry.kind ≡ 4)
     leaf_kind_lem t =
         let (k, q) = is_plain Y simple in
-        let e = ap (λ (x : Entry). x.kind) Y.item.entered ∙ its_kind Y.item.ready Y.item.known ∙ ap kind q in
+        let e = ap (λ (x : Entry). octet_of x.kind) Y.item.entered ∙ its_kind Y.item.ready Y.item.known ∙ ap kind q in
         string_kind k (leaf_string Y simple k q (sym (leaf_lead Y simple k q) ∙ t)) e
 
     its_entered : Entered b Y.item.entry (table_in b Y.item.known.0)
     its_entered = rw Y.item.entered (its_entry Y.item.ready Y.item.known)
 
-    module _ (y : Result Judged Unread) (ey : y ≡ told (C Y) leaf_size (read_leaf_in (body_at b Y.item.entry.kind Y.item.entry.own) (is_in_segments Lead) Y.indefinite
+    module _ (y : Result Judged Unread) (ey : y ≡ told (C Y) leaf_size (read_leaf_in (body_at b (octet_of Y.item.entry.kind) Y.item.entry.own) (is_in_segments Lead) Y.indefinite
         (length m - Y.item.at) (length m - Y.stop) (C Y))) where
       -- the same in the octets around the item, with what stands behind those
       record Local : Type 0 where
@@ -219,7 +218,7 @@ module _ {b index : List ℕ} {w : ℕ} {m : List ℕ} {first level : ℕ} (Y : 
           let n = length m - Y.item.end in
           let i : length m - Y.item.at ≡ length (S Y) + n = omega (arith, left_part Y.item, Y.item.under.some, Y.item.under.high) in
           let j : length m - Y.stop ≡ Y.item.end - Y.stop + n = omega (arith, Y.within.high, Y.item.under.high) in
-          let e = ey ∙ ap (λ (x : Entry). told (C Y) leaf_size (read_leaf_in (body_at b x.kind x.own) (is_in_segments Lead) Y.indefinite
+          let e = ey ∙ ap (λ (x : Entry). told (C Y) leaf_size (read_leaf_in (body_at b (octet_of x.kind) x.own) (is_in_segments Lead) Y.indefinite
           (length m - Y.item.at) (length m - Y.stop) (C Y))) Y.item.entered
           ∙ ap (λ (x : Body). told (C Y) leaf_size (read_leaf_in x (is_in_segments Lead) Y.indefinite (length m - Y.item.at) (length m - Y.stop) (C Y)))
           (its_body Y.item.ready Y.item.known ∙ q) in
@@ -303,6 +302,10 @@ pub record Ended (b index : List ℕ) (w : ℕ) (m : List ℕ) (first level : �
   pub count : ℕ
   pub over : Over b (record_of b w) level (take item.end m) item.at item.end stop count
 
+abbrev pub ended_of : {b index : List ℕ} {w : ℕ} {m : List ℕ} {first level : ℕ} (X : Item b index w m first level) (stop count : ℕ)
+    → Over b (record_of b w) level (take X.end m) X.at X.end stop count → Ended b index w m first level
+ended_of X stop count o = record { item = X; stop = stop; count = count; over = o }
+
 module _ {b index : List ℕ} {w : ℕ} {m : List ℕ} {first level : ℕ} (Z : Ended b index w m first level) where
   abbrev It : Item b index w m first level
   It = Z.item
@@ -319,9 +322,9 @@ module _ {b index : List ℕ} {w : ℕ} {m : List ℕ} {first level : ℕ} (Z : 
   pub item_tags : It.entry.explicit ≤ 4
   item_tags = omega (arith, ap (λ (x : Entry). x.explicit) It.entered, its_count It.ready It.known, its_few It.ready It.known)
 
-  pub item_closes : (It.entry.explicit ≤ 4) × (length It.notes ≡ 4) × (Z.stop ≤ It.end) × (length m ≤ 8192) × (Z.count < 16386)
+  pub item_closes : (It.entry.explicit ≤ 4) × (Z.stop ≤ It.end) × (length m ≤ 8192) × (Z.count < 16386)
       × Around (length m) AllNotes It.end
-  item_closes = (item_tags, It.four, Z.over.within, It.short, Z.over.small, rw notes_same It.under.around)
+  item_closes = (item_tags, Z.over.within, It.short, Z.over.small, rw notes_same It.under.around)
 
   closed_is : Wanted It ≡ told m (λ (i : ℕ). i) (closing m (take (unpacked w).explicit It.notes) It.end (Behind Z.count))
   closed_is =
@@ -346,7 +349,7 @@ module _ {b index : List ℕ} {w : ℕ} {m : List ℕ} {first level : ℕ} (Z : 
       sym (closed_is ∙ rw (z, q, g) refl)
 
 -- a whole message of type t
-pub message_known : {b index : List ℕ} (w t : ℕ) → t < count_in b → unpacked w ≡ record { code = 0; own = t; kind = 51; explicit = 0; simple = false }
+pub message_known : {b index : List ℕ} (w t : ℕ) → t < count_in b → unpacked w ≡ record { code = 0; own = t; kind = Message; explicit = 0; simple = false }
     → Known b index w × ((unpacked w).simple ≡ false)
 message_known w t h q = (of_message t h q, ap (λ (x : Entry). x.simple) q)
 
@@ -356,7 +359,7 @@ message_empty T n t [] z = refl
 message_empty T n t (x ∷ m) z = absurd (omega arith)
 
 module _ (b m : List ℕ) (n t : ℕ) (some : length m ≡ 0 → ⊥) (w : ℕ)
-    (q : unpacked w ≡ record { code = 0; own = t; kind = 51; explicit = 0; simple = false })
+    (q : unpacked w ≡ record { code = 0; own = t; kind = Message; explicit = 0; simple = false })
     (y : Result Judged Unread) (ey : y ≡ told m size (read_held (table_in b) (read_value (table_in b) n) (held b w) closed m)) where
   abbrev Root : Answer ReadingCause Value
   Root = read_held (table_in b) (read_value (table_in b) n) (message t) closed m

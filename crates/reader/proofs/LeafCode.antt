@@ -1,14 +1,14 @@
 -- What the code answers of simple contents, and what it places of them: by themselves, or by their segments (X.690, 8.2 to 8.8).
 -- Assumes nothing.
-use mathlib.Core.Bool.{Bool, true, false, not, false≢true}
+use mathlib.Core.Bool.{Bool, true, false, not}
 use mathlib.Core.List.{List, [], ◌∷◌, ◌++◌, append_assoc}
 use mathlib.Core.Logic.{◌⊎◌, inl, inr}
 use mathlib.Core.Option.{some}
 use mathlib.Core.Path.{◌≡◌, refl, sym, ap, ◌∙◌}
 use native.Mathlib.Omega.{arith}
 use Prim.Native.Nat.{ℕ, ◌+◌, ◌-◌, ◌*◌, ◌%◌, ◌≤◌, ◌<◌}
-use borrow.Author.Tests.{not-true, not-false, eqb-true}
-use lib.Dec.{eqb}
+use borrow.Author.Tests.{not-true}
+use denote.Enum.Bare.{sameb}
 use lib.ListN.{length, get_or, take, drop, length-append, length-drop, take-append-drop}
 use lib.Seq.{sets, sets-eq, length-sets, length-take-le, take_at, drop_at}
 use Rattle.std.specs.Prelude.{Result, Ok, Err}
@@ -19,9 +19,10 @@ use Rattle.octets.specs.Answer.{Answer, got, refused, then, if, behind, none_lef
 use Rattle.octets.specs.Numbers.{octets_of}
 use Rattle.octets.proofs.Answer.{got_holds}
 use Rattle.octets.proofs.Lists.{both}
+use Rattle.octets.proofs.Tests.{test}
 use Rattle.x690.specs.BitString.{unused, masked}
 use Rattle.x690.specs.Reading.{Size, read_length}
-use Rattle.x690.specs.Segments.{Kind, bit_string, octet_string, universal, empty, in_form, Gathered, deepest, read_all, read_segment}
+use Rattle.x690.specs.Segments.{Kind as Segments, bit_string, octet_string, universal, empty, in_form, Gathered, deepest, read_all, read_segment}
 use Rattle.x690.proofs.BitString.{length_masked}
 use Rattle.x690.proofs.Lengths.{length_sound}
 use Rattle.x690.proofs.Segments.{all_form}
@@ -36,6 +37,11 @@ use Rattle.segments.proofs.SegmentCode.{Came, all_came, all_refused}
 use Rattle.ber.proofs.Told.{shape_some}
 use Rattle.table.specs.Syntax.{Simple, BitString, OctetString, Plain, Record, constructed}
 use Rattle.table.specs.Reading.{body_at}
+use Rattle.kinds.specs.contracts.Kind.{the_type}
+use Rattle.kinds.specs.declared.Kind.{Kind}
+use Rattle.kinds.specs.declared.Kind.TheVariants.{BitString as Bits, OctetString as Octets}
+use Rattle.kinds.specs.Kinds.{octet_of}
+use Rattle.kinds.proofs.Same.{is_kind, not_kind, same_kind}
 use Rattle.records.specs.Entries.{Entered}
 use Rattle.records.specs.declared.entry.Entry.{Entry}
 use Rattle.coding.specs.Content.{segmented}
@@ -44,25 +50,22 @@ use Rattle.coding.specs.Reading.{decode}
 use Rattle.reader.specs.Answers.{judged, unread, told, cap}
 use Rattle.reader.specs.Leaves.{leaf_of, read_segments, read_leaf, read_leaf_in, leaf_size, Carried, by_segments, ToPlaceLeaf, LeafPlaced}
 use Rattle.reader.specs.Weights.{weight, leaf_weight}
+use Rattle.reader.specs.declared.answer.Judged.{Judged}
 use Rattle.reader.proofs.Bodies.{plain_of}
-use Rattle.reader.proofs.LeafKinds.{bits_octets, string_octets, leaf_three, lawful_bits, leaf_placed}
+use Rattle.reader.proofs.LeafKinds.{leaf_three, right, leaf_is, leaf_placed}
 use Rattle.reader.proofs.LeafReading.{decode_only, decode_moves}
 use Rattle.reader.proofs.Stores.{sets_append, sets_later}
 use Rattle.reader.proofs.Tails.{some_left}
 
--- the kind of a string, as the code tells it by the number
-abbrev kind_in : ℕ → Kind
-kind_in kind = kind_of (eqb kind 3)
-
--- A string, by the number of its kind: its value has some octets more than its contents.
-record IsString (b : List ℕ) (kind own : ℕ) : Type 0 where
+-- A string, by its kind: its value has some octets more than its contents.
+record IsString (b : List ℕ) (kind : Kind) (own : ℕ) (bits : Bool) : Type 0 where
   pub simple : Simple
   pub more : ℕ
   pub few : more ≤ 5
-  pub body : body_at b kind own ≡ Plain simple
-  pub segments : segmented simple ≡ some (kind_in kind)
-  pub size : (n r : ℕ) → (kind ≡ 3 → r ≡ n + 4) → (kind ≡ 4 → r ≡ n + 5) → r ≡ n + more
-  pub is : (l : ℕ) (d u : List ℕ) → in_form (kind_in kind) d ≡ true
+  pub body : body_at b (octet_of kind) own ≡ Plain simple
+  pub segments : segmented simple ≡ some (kind_of bits)
+  pub size : (n r : ℕ) → (octet_of kind ≡ 3 → r ≡ n + 4) → (octet_of kind ≡ 4 → r ≡ n + 5) → r ≡ n + more
+  pub is : (l : ℕ) (d u : List ℕ) → in_form (kind_of bits) d ≡ true
       → (x : Leaf) × (decode simple l d u ≡ got x u) × (leaf_size x ≡ length d + more)
 
 bits_there : (l : ℕ) (d u : List ℕ) → in_form bit_string d ≡ true → (x : Leaf) × (decode BitString l d u ≡ got x u) × (leaf_size x ≡ length d + 4)
@@ -77,10 +80,10 @@ string_there : (l : ℕ) (d u : List ℕ) → (x : Leaf) × (decode OctetString 
 unfolding decode leaf_octets
 string_there l d u = (string d, refl, omega arith)
 
-is_string : (b : List ℕ) (kind own : ℕ) → (kind ≡ 3) ⊎ (kind ≡ 4) → IsString b kind own
+is_string : (b : List ℕ) (kind : Kind) (own : ℕ) {bits : Bool} → (octet_of kind ≡ 3) ⊎ (octet_of kind ≡ 4) → bits ≡ sameb the_type kind Bits → IsString b kind own bits
 unfolding body_at if segmented
-is_string b kind own (inl e) =
-    rw e (record {
+is_string b kind own (inl e) q =
+    rw (q, same_kind kind Bits e) (record {
       simple = BitString;
       more = 4;
       few = omega arith;
@@ -89,8 +92,8 @@ is_string b kind own (inl e) =
       size = λ n r f g. f refl;
       is = bits_there;
     })
-is_string b kind own (inr e) =
-    rw e (record {
+is_string b kind own (inr e) q =
+    rw (q, same_kind kind Octets e) (record {
       simple = OctetString;
       more = 5;
       few = omega arith;
@@ -101,39 +104,46 @@ is_string b kind own (inr e) =
     })
 
 -- Contents in segments, by what the code answers of those.
-abbrev all_in : ℕ → Bool → List ℕ → Answer ReadingCause Gathered
-all_in kind z c = read_all (kind_in kind) (read_segment (kind_in kind) deepest) (mode z) c
+module _ (bits z : Bool) (c : List ℕ) where
+  abbrev all_in : Answer ReadingCause Gathered
+  all_in = read_all (kind_of bits) (read_segment (kind_of bits) deepest) (mode z) c
 
-module _ (kind : ℕ) (z : Bool) (c : List ℕ) {r : Result Extents Unread} (a : r ≡ told_segments (kind_in kind) (length c) (all_in kind z c)) where
-  parts_stop : (y : Unread) → r ≡ Err y → (all_in kind z c ≡ refused y.cause y.left) × (y.left ≤ length c)
-  parts_stop y e = all_refused (kind_in kind) deepest c r z a y e
+  module _ {r : Result Extents Unread} (a : r ≡ told_segments (kind_of bits) (length c) all_in) where
+    parts_stop : (y : Unread) → r ≡ Err y → (all_in ≡ refused y.cause y.left) × (y.left ≤ length c)
+    parts_stop y e = all_refused (kind_of bits) deepest c r z a y e
 
-  pub parts_left : (y : Unread) → r ≡ Err y → y.left ≤ length c
-  parts_left y e = (parts_stop y e).1
+    pub parts_left : (y : Unread) → r ≡ Err y → y.left ≤ length c
+    parts_left y e = (parts_stop y e).1
 
-  parts_came : (y : Extents) → r ≡ Ok y → Came (kind_in kind) 0 (length (empty (kind_in kind))) c (all_in kind z c) y
-  parts_came y e = all_came (kind_in kind) deepest c r z a y e
+    parts_came : (y : Extents) → r ≡ Ok y → Came (kind_of bits) 0 (length (empty (kind_of bits))) c all_in y
+    parts_came y e = all_came (kind_of bits) deepest c r z a y e
 
-  pub parts_few : (y : Extents) → r ≡ Ok y → y.size ≤ length c + 1
-  parts_few y e = let C = parts_came y e in omega (arith, empty_few (kind_in kind), C.high, C.inside)
+    pub parts_few : (y : Extents) → r ≡ Ok y → y.size ≤ length c + 1
+    parts_few y e = let C = parts_came y e in omega (arith, empty_few (kind_of bits), C.high, C.inside)
 
-  -- l octets are left where the item begins, and j behind c
-  module _ (b : List ℕ) (own l j : ℕ) (s : (kind ≡ 3) ⊎ (kind ≡ 4)) where
-    pub parts_refused : (y : Unread) → r ≡ Err y → unread y.cause (y.left + j) ≡ told c leaf_size (read_leaf_in (body_at b kind own) true z l j c)
-    unfolding read_leaf_in read_leaf read_segments then behind told
-    parts_refused y e = let I = is_string b kind own s in rw (I.body, I.segments, (parts_stop y e).0) refl
+    -- those of a string: l octets are left where the item begins, and j behind c
+    module _ (kind : Kind) (q : bits ≡ sameb the_type kind Bits) (b : List ℕ) (own l j : ℕ) (s : (octet_of kind ≡ 3) ⊎ (octet_of kind ≡ 4)) where
+      its_string : IsString b kind own bits
+      its_string = is_string b kind own s q
 
-    pub parts_done : (y : Extents) → r ≡ Ok y → (n : ℕ) → (kind ≡ 3 → n ≡ y.size + 4) × (kind ≡ 4 → n ≡ y.size + 5) → length c ≤ 8192
-        → judged y.end n ≡ told c leaf_size (read_leaf_in (body_at b kind own) true z l j c)
-    unfolding read_leaf_in read_leaf read_segments then behind told
-    parts_done y e n f h =
-        let I = is_string b kind own s in
-        let C = parts_came y e in
-        let d = C.gathered.0 in
-        let (x, i, k) = I.is l d (drop y.end c) (got_holds (all_form (kind_in kind) deepest (mode z) c) C.is) in
-        let p : length c - length (drop y.end c) ≡ y.end = omega (arith, length-drop y.end c, C.inside) in
-        let q : cap (leaf_size x) ≡ n = omega (arith, I.size y.size n f.0 f.1, I.few, C.sized, parts_few y e) in
-        rw (I.body, I.segments, C.is, i, p, q) refl
+      abbrev Told : Result Judged Unread
+      Told = told c leaf_size (read_leaf_in (body_at b (octet_of kind) own) true z l j c)
+
+      pub parts_refused : (y : Unread) → r ≡ Err y → unread y.cause (y.left + j) ≡ Told
+      unfolding read_leaf_in read_leaf read_segments then behind told
+      parts_refused y e = rw (its_string.body, its_string.segments, (parts_stop y e).0) refl
+
+      pub parts_done : (y : Extents) → r ≡ Ok y → {n : ℕ} → (octet_of kind ≡ 3 → n ≡ y.size + 4) × (octet_of kind ≡ 4 → n ≡ y.size + 5) → length c ≤ 8192
+          → judged y.end n ≡ Told
+      unfolding read_leaf_in read_leaf read_segments then behind told
+      parts_done y e {n} f h =
+          let I = its_string in
+          let C = parts_came y e in
+          let d = C.gathered.0 in
+          let (x, i, k) = I.is l d (drop y.end c) (got_holds (all_form (kind_of bits) deepest (mode z) c) C.is) in
+          let p : length c - length (drop y.end c) ≡ y.end = omega (arith, length-drop y.end c, C.inside) in
+          let w : cap (leaf_size x) ≡ n = omega (arith, I.size y.size n f.0 f.1, I.few, C.sized, parts_few y e) in
+          rw (I.body, I.segments, C.is, i, p, w) refl
 
 -- Contents by themselves, by the size that the code gives.
 module _ (k : Simple) (c : List ℕ) (l : ℕ) (n : ℕ) (en : n ≡ weight (decode k 0 c [])) where
@@ -154,26 +164,26 @@ module _ (k : Simple) (c : List ℕ) (l : ℕ) (n : ℕ) (en : n ≡ weight (dec
       go (refused a b) e = absurd (z (rw e at en))
 
 module _ {b : List ℕ} {e : Entry} {r : Record} (X : Entered b e r) (s : e.simple ≡ true) (z : Bool) (l j : ℕ) (c : List ℕ) where
-  its_simple : (k : Simple) × (body_at b e.kind e.own ≡ Plain k)
+  its_simple : (k : Simple) × (body_at b (octet_of e.kind) e.own ≡ Plain k)
   its_simple = let (k, p) = plain_of r.body (not-true (constructed r.body) (sym X.simple ∙ s)) in (k, X.body ∙ p)
 
-  pub whole_open : z ≡ true → unread Forbidden l ≡ told c leaf_size (read_leaf_in (body_at b e.kind e.own) false z l j c)
+  pub whole_open : z ≡ true → unread Forbidden l ≡ told c leaf_size (read_leaf_in (body_at b (octet_of e.kind) e.own) false z l j c)
   unfolding read_leaf_in read_leaf told
   whole_open f = rw (its_simple.1, f) refl
 
-  module _ (f : z ≡ false) {n : ℕ} (a : n ≡ leaf_weight (body_at b e.kind e.own) c) where
-    pub whole_wrong : n ≡ 0 → unread Contents l ≡ told c leaf_size (read_leaf_in (body_at b e.kind e.own) false z l j c)
+  module _ (f : z ≡ false) {n : ℕ} (a : n ≡ leaf_weight (body_at b (octet_of e.kind) e.own) c) where
+    pub whole_wrong : n ≡ 0 → unread Contents l ≡ told c leaf_size (read_leaf_in (body_at b (octet_of e.kind) e.own) false z l j c)
     unfolding read_leaf_in read_leaf leaf_weight told
     whole_wrong h = go its_simple.0 its_simple.1
       where
-        go : (k : Simple) → body_at b e.kind e.own ≡ Plain k → unread Contents l ≡ told c leaf_size (read_leaf_in (body_at b e.kind e.own) false z l j c)
+        go : (k : Simple) → body_at b (octet_of e.kind) e.own ≡ Plain k → unread Contents l ≡ told c leaf_size (read_leaf_in (body_at b (octet_of e.kind) e.own) false z l j c)
         go k p = let g = rw p at a in rw (p, f, weight_none k c l n g h) refl
 
-    pub whole_done : (n ≡ 0 → ⊥) → n < 16386 → judged (length c) n ≡ told c leaf_size (read_leaf_in (body_at b e.kind e.own) false z l j c)
+    pub whole_done : (n ≡ 0 → ⊥) → n < 16386 → judged (length c) n ≡ told c leaf_size (read_leaf_in (body_at b (octet_of e.kind) e.own) false z l j c)
     unfolding read_leaf_in read_leaf leaf_weight told
     whole_done h i = go its_simple.0 its_simple.1
       where
-        go : (k : Simple) → body_at b e.kind e.own ≡ Plain k → judged (length c) n ≡ told c leaf_size (read_leaf_in (body_at b e.kind e.own) false z l j c)
+        go : (k : Simple) → body_at b (octet_of e.kind) e.own ≡ Plain k → judged (length c) n ≡ told c leaf_size (read_leaf_in (body_at b (octet_of e.kind) e.own) false z l j c)
         go k p =
             let g = rw p at a in
             let (x, d, o) = weight_some k c l n g h in
@@ -181,18 +191,8 @@ module _ {b : List ℕ} {e : Entry} {r : Record} (X : Entered b e r) (s : e.simp
             let v : cap (leaf_size x) ≡ n = omega arith in
             rw (p, f, d, u, v) refl
 
--- Placing. The kind of a string.
-its_kind : (kind : ℕ) (k : Kind) → universal k ≡ kind → kind_in kind ≡ k
-its_kind kind bit_string e = rw (← e) refl
-its_kind kind octet_string e = rw (← e) refl
-
-string_length : (kind : ℕ) (d : List ℕ) (k : Kind) → universal k ≡ kind → length (leaf_octets (leaf_of kind d)) ≡ 5 + length (carried (kind_in kind) d)
-unfolding carried
-string_length kind d bit_string e = rw (bits_octets kind d (sym e), its_kind kind bit_string e, length_masked (get_or d 0 0) (drop 1 d)) (omega arith)
-string_length kind d octet_string e = rw (string_octets kind d (sym e), its_kind kind octet_string e) (omega arith)
-
--- Segments carry less than they take: each has a header.
-carried_less : (k : Kind) (c : List ℕ) → length (carried k c) ≤ length c
+-- Placing. Segments carry less than they take: each has a header.
+carried_less : (k : Segments) (c : List ℕ) → length (carried k c) ≤ length c
 unfolding carried
 carried_less bit_string c = omega (arith, length-drop 1 c)
 carried_less octet_string c = omega arith
@@ -202,7 +202,7 @@ rest_less s {r = r} e =
     let (p, q, o, h) = shape_some (got_holds (length_sound 0 s) (e 0)) in
     omega (arith, ap length q ∙ length-append p r)
 
-gathers_less : {k : Kind} {n : ℕ} {a s c w : List ℕ} → Gathers k n a s c w → length (carried k c) ≤ length (carried k a) + (length s - 1)
+gathers_less : {k : Segments} {n : ℕ} {a s c w : List ℕ} → Gathers k n a s c w → length (carried k c) ≤ length (carried k a) + (length s - 1)
 gathers_less behind_all = omega arith
 gathers_less at_the_end = omega arith
 gathers_less (closes p) = omega (arith, gathers_less p)
@@ -220,7 +220,7 @@ joined_placed b b₁ b₂ b₃ X to k n e₁ e₂ e₃ =
     let q : to + 3 + 2 ≡ to + 5 = omega arith in
     let y : sets (sets b₁ (to + 3) (octets_of n)) (to + 5) X ≡ sets b₁ (to + 3) (octets_of n ++ X) = sym (rw q at (sets_append (octets_of n) b₁ (to + 3) X)) in
     let z : b₃ ≡ sets b₁ (to + 3) (octets_of n ++ X) = e₃ ∙ rw e₂ (sets_later (octets_of n) X b₁ (to + 3) (to + 5) (omega arith)) ∙ y in
-    (leaf_placed {k = k} {X = octets_of n ++ X} refl b b₁ b₃ to (to + 3 + length (octets_of n ++ X)) e₁ refl z).1
+    (leaf_placed {k = k} {X = octets_of n ++ X} refl b to e₁ (refl, z)).1
 
 -- octets that were stored, and then masked where they stand
 masked_there : (b₁ b₂ d p : List ℕ) (s n u : ℕ) → b₂ ≡ sets b₁ s d → n ≡ length d → s + n ≤ length b₁ → p ≡ masked u (take n (drop s b₂))
@@ -239,77 +239,84 @@ masked_there b₁ b₂ d p s n u e en h ep =
     rw (i, k, ep, j) (sym (rw m at v))
 
 -- a string in segments that is to be placed in the buffer b
-module _ {kind : ℕ} {c : List ℕ} {to : ℕ} (b : List ℕ) (P : ToPlaceLeaf kind c true (length b) to) where
-  gathered : Gathers (kind_in kind) 1 (empty (kind_in kind)) c P.contents P.rest
+module _ (kind : Kind) {c : List ℕ} {to : ℕ} (b : List ℕ) (P : ToPlaceLeaf (octet_of kind) c true (length b) to) {bits : Bool} (q : bits ≡ sameb the_type kind Bits) where
+  abbrev its : List ℕ
+  its = carried (kind_of bits) P.contents
+
+  gathered : Gathers (kind_of bits) 1 (empty (kind_of bits)) c P.contents P.rest
   gathered = by P.contents P.rest P.carried
     where
-      by : (d u : List ℕ) → Carried kind c true d u → Gathers (kind_in kind) 1 (empty (kind_in kind)) c d u
-      by d u (by_segments k z b e f) = rw (its_kind kind k e) (all_gathers k deepest (mode z) c (d, b) u f)
+      by : (d u : List ℕ) → Carried (octet_of kind) c true d u → Gathers (kind_of bits) 1 (empty (kind_of bits)) c d u
+      by d u (by_segments k z b e f) = rw (its_kind k e) (all_gathers k deepest (mode z) c (d, b) u f)
+        where
+          its_kind : (k : Segments) → universal k ≡ octet_of kind → kind_of bits ≡ k
+          its_kind bit_string e = rw (q, same_kind kind Bits (sym e)) refl
+          its_kind octet_string e = rw (q, same_kind kind Octets (sym e)) refl
 
-  parts_length : length (leaf_octets (leaf_of kind P.contents)) ≡ 5 + length (carried (kind_in kind) P.contents)
-  parts_length = by P.contents P.rest P.carried
+  its_bits : bits ≡ true → kind ≡ Bits
+  its_bits h = same_kind kind Bits (is_kind kind Bits q h)
+
+  its_octets : bits ≡ false → kind ≡ Octets
+  its_octets h = by P.contents P.rest P.carried
     where
-      by : (d u : List ℕ) → Carried kind c true d u → length (leaf_octets (leaf_of kind d)) ≡ 5 + length (carried (kind_in kind) d)
-      by d u (by_segments k z b e f) = string_length kind d k e
+      by : (d u : List ℕ) → Carried (octet_of kind) c true d u → kind ≡ Octets
+      by d u (by_segments bit_string z b e f) = absurd (not_kind kind Bits q h (sym e))
+      by d u (by_segments octet_string z b e f) = same_kind kind Octets (sym e)
 
-  pub parts_room : to + 5 + length (carried (kind_in kind) P.contents) ≤ length b
+  parts_length : length (leaf_octets (leaf_of (octet_of kind) P.contents)) ≡ 5 + length its
+  unfolding carried
+  parts_length =
+      test bits
+      (λ t. rw t (omega (arith, ap length (leaf_is (its_bits t) P.lawful), length_masked (get_or P.contents 0 0) (drop 1 P.contents))))
+      λ f. rw f (omega (arith, ap length (leaf_is (its_octets f) P.lawful)))
+
+  parts_room : to + 5 + length its ≤ length b
   parts_room = omega (arith, parts_length, P.fits)
 
-  parts_number : length (carried (kind_in kind) P.contents) < 8192
-  parts_number = omega (arith, gathers_less gathered, ap length (carried_empty (kind_in kind)), P.short)
-
-  four : not (eqb kind 3) ≡ true → kind ≡ 4
-  four h = by P.contents P.rest P.carried
-    where
-      by : (d u : List ℕ) → Carried kind c true d u → kind ≡ 4
-      by d u (by_segments bit_string z b e f) = absurd (false≢true (rw (← e) at h))
-      by d u (by_segments octet_string z b e f) = sym e
-
-  three : not (eqb kind 3) ≡ false → kind ≡ 3
-  three h = eqb-true kind 3 (not-false (eqb kind 3) h)
+  parts_number : length its < 8192
+  parts_number = omega (arith, gathers_less gathered, ap length (carried_empty (kind_of bits)), P.short)
 
   -- the code has joined them behind the mark and the kind
-  module _ {b₁ b₂ : List ℕ} {x : Joined} (e₁ : b₁ ≡ sets b to (86 ∷ 65 ∷ kind ∷ []))
-      (f : let y = joining (kind_in kind) c b₁ (to + 5) in (x ≡ told_joined (length c) y) × (b₂ ≡ y.buffer)) where
+  module _ {b₁ b₂ : List ℕ} {x : Joined} (e₁ : b₁ ≡ sets b to (86 ∷ 65 ∷ octet_of kind ∷ []))
+      (f : let y = joining (kind_of bits) c b₁ (to + 5) in (x ≡ told_joined (length c) y) × (b₂ ≡ y.buffer)) where
     marked : length b₁ ≡ length b
-    marked = ap length e₁ ∙ length-sets b to (86 ∷ 65 ∷ kind ∷ [])
+    marked = ap length e₁ ∙ length-sets b to (86 ∷ 65 ∷ octet_of kind ∷ [])
 
-    joined : IsJoined (kind_in kind) c b₁ (to + 5) P.contents P.rest b₂ x
+    joined : IsJoined (kind_of bits) c b₁ (to + 5) P.contents P.rest b₂ x
     joined = join_is f P.contents P.rest gathered (omega (arith, parts_room, marked))
 
-    pub parts_next : (to + 5 ≤ x.next) × (x.next ≤ length b) × (x.next - (to + 5) < 8192)
-    parts_next = let n = joined.next in (omega arith, omega (arith, parts_room), omega (arith, parts_number))
+    kept : length b₂ ≡ length b
+    kept = ap length joined.put ∙ length-sets b₁ (to + 5) its ∙ marked
 
-    pub parts_kept : length b₂ ≡ length b
-    parts_kept = ap length joined.put ∙ length-sets b₁ (to + 5) (carried (kind_in kind) P.contents) ∙ marked
+    pub parts_fit : (to + 5 ≤ x.next) × (x.next ≤ length b) × (x.next - (to + 5) < 8192) × (length b₂ ≡ length b)
+    parts_fit = let n = joined.next in (omega arith, omega (arith, parts_room), omega (arith, parts_number), kept)
 
-    pub octets_placed : not (eqb kind 3) ≡ true → {b₃ : List ℕ} → b₃ ≡ sets b₂ (to + 3) (octets_of (x.next - (to + 5)))
-        → LeafPlaced kind P.contents P.rest c b to b₃ (record { end = x.end; next = x.next })
+    pub octets_placed : bits ≡ false → {b₃ : List ℕ} → b₃ ≡ sets b₂ (to + 3) (octets_of (x.next - (to + 5)))
+        → LeafPlaced (octet_of kind) P.contents P.rest c b to b₃ (record { end = x.end; next = x.next })
     unfolding carried
     octets_placed h {b₃} e₃ =
-        let q = not-true (eqb kind 3) h in
-        let p : b₂ ≡ sets b₁ (to + 5) P.contents = rw q at joined.put in
-        let n : x.next ≡ to + 5 + length P.contents = rw q at joined.next in
+        let p : b₂ ≡ sets b₁ (to + 5) P.contents = rw h at joined.put in
+        let n : x.next ≡ to + 5 + length P.contents = rw h at joined.next in
         let m : x.next - (to + 5) ≡ length P.contents = omega arith in
-        let o = string_octets kind P.contents (four h) in
+        let o = leaf_is (its_octets h) P.lawful in
         record {
           next = n ∙ omega (arith, ap length o);
-          buffer = rw o (joined_placed b b₁ b₂ b₃ P.contents to kind (length P.contents) e₁ p (rw m at e₃));
+          buffer = rw o (joined_placed b b₁ b₂ b₃ P.contents to (octet_of kind) (length P.contents) e₁ p (rw m at e₃));
           within = joined.within;
           left = sym joined.behind;
         }
 
-    module _ (h : not (eqb kind 3) ≡ false) where
+    module _ (h : bits ≡ true) where
       bits_next : x.next ≡ to + 5 + length (drop 1 P.contents)
       unfolding carried
-      bits_next = let q = not-false (eqb kind 3) h in rw q at joined.next
+      bits_next = rw h at joined.next
 
       bits_unused : x.unused ≡ get_or P.contents 0 0
       unfolding unused_in
-      bits_unused = let q = not-false (eqb kind 3) h in rw q at joined.unused
+      bits_unused = rw h at joined.unused
 
       pub bits_few : (x.unused < 8) × (x.unused ≤ 8 * (x.next - (to + 5)))
-      bits_few = let (o, i, j) = lawful_bits P.lawful (three h) in (omega (arith, bits_unused), omega (arith, bits_unused, bits_next))
+      bits_few = let (o, i, j) = right (its_bits h) P.lawful in (omega (arith, bits_unused), omega (arith, bits_unused, bits_next))
 
       -- the unused bits are cleared
       module _ {p : List ℕ} (ep : p ≡ masked (x.unused % 8) (take (x.next - (to + 5)) (drop (to + 5) b₂))) where
@@ -319,11 +326,10 @@ module _ {kind : ℕ} {c : List ℕ} {to : ℕ} (b : List ℕ) (P : ToPlaceLeaf 
         bits_cleared : cleared ≡ sets b₁ (to + 5) (masked (get_or P.contents 0 0) (drop 1 P.contents))
         unfolding carried
         bits_cleared =
-            let q = not-false (eqb kind 3) h in
             let d = drop 1 P.contents in
             let u = get_or P.contents 0 0 in
-            let s : b₂ ≡ sets b₁ (to + 5) d = rw q at joined.put in
-            let r : to + 5 + length d ≤ length b = rw q at parts_room in
+            let s : b₂ ≡ sets b₁ (to + 5) d = rw h at joined.put in
+            let r : to + 5 + length d ≤ length b = rw h at parts_room in
             let w : x.unused % 8 ≡ u = omega (arith, bits_few.0, bits_unused) in
             masked_there b₁ b₂ d p (to + 5) (x.next - (to + 5)) u s (omega (arith, bits_next)) (omega (arith, marked, bits_next)) (rw w at ep)
 
@@ -332,16 +338,16 @@ module _ {kind : ℕ} {c : List ℕ} {to : ℕ} (b : List ℕ) (P : ToPlaceLeaf 
             ap length bits_cleared ∙ length-sets b₁ (to + 5) (masked (get_or P.contents 0 0) (drop 1 P.contents)) ∙ marked
 
         pub bits_placed : {b₃ : List ℕ} → b₃ ≡ sets cleared (to + 3) (octets_of (8 * (x.next - (to + 5)) - x.unused))
-            → LeafPlaced kind P.contents P.rest c b to b₃ (record { end = x.end; next = x.next })
+            → LeafPlaced (octet_of kind) P.contents P.rest c b to b₃ (record { end = x.end; next = x.next })
         bits_placed {b₃} e₃ =
             let d = drop 1 P.contents in
             let u = get_or P.contents 0 0 in
             let m : x.next - (to + 5) ≡ length d = omega (arith, bits_next) in
-            let o = bits_octets kind P.contents (three h) in
+            let o = leaf_is (its_bits h) P.lawful in
             let y : b₃ ≡ sets cleared (to + 3) (octets_of (8 * length d - u)) = e₃ ∙ rw (m, bits_unused) refl in
             record {
               next = bits_next ∙ omega (arith, ap length o, length_masked u d);
-              buffer = rw o (joined_placed b b₁ cleared b₃ (masked u d) to kind (8 * length d - u) e₁ bits_cleared y);
+              buffer = rw o (joined_placed b b₁ cleared b₃ (masked u d) to (octet_of kind) (8 * length d - u) e₁ bits_cleared y);
               within = joined.within;
               left = sym joined.behind;
             }

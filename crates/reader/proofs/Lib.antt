@@ -1,5 +1,6 @@
 -- Laws of the reader.
 -- Assumes nothing.
+pub mod Lent
 pub mod Items
 pub mod ItemsInTurn
 pub mod ItemsEachOnce

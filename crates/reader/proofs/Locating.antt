@@ -13,17 +13,19 @@ use Rattle.octets.specs.Answer.{none_left}
 use Rattle.ber.specs.Skipping.{Skips}
 use Rattle.table.specs.Syntax.{Member, Plain, Sequence, Set, SequenceOf, SetOf, Choice, Table}
 use Rattle.table.specs.Reading.{table_in, count_in}
+use Rattle.kinds.specs.Kinds.{octet_of}
 use Rattle.records.specs.Entries.{unpacked}
 use Rattle.coding.specs.Reading.{read_value}
 use Rattle.coding.proofs.FirstTags.{good}
 use Rattle.reader.specs.Items.{Holder, inside, message, Manner, in_turn, each_once, repeated, single, manner, parts_of, since, next, blank}
-use Rattle.reader.specs.Records.{Ready, Known}
+use Rattle.reader.specs.Records.{Known}
 use Rattle.reader.specs.Sought.{held, Sound, tabled_count, Sought}
 use Rattle.reader.specs.Placing.{end_at, Spotted}
 use Rattle.reader.specs.declared.search.Choice.{Choice as Chosen}
 use Rattle.reader.proofs.Spans.{turns_by, by_member, EntryOf, entry_of}
 use Rattle.reader.proofs.PlacedTurns.{over_at, awaited, over_at_lem}
 use Rattle.reader.proofs.PlacedSpots.{Spotting, spotting_first, spotted, spotted_none, spotting_turn}
+use Rattle.checker.proofs.Ready.{Ready}
 
 -- what an entry of the kind of a SET stands for
 once_is : (k : Manner) → turns_by k ≡ false → by_member k ≡ true → k ≡ each_once
@@ -53,16 +55,16 @@ module _ {b index : List ℕ} (R : Ready b index) {w : ℕ} (known : Known b ind
   its : EntryOf b (unpacked w)
   its = entry_of R w known
 
-  pub set_once : (unpacked w).kind ≡ 17 → manner (held b w) ≡ each_once
+  pub set_once : (octet_of (unpacked w).kind) ≡ 17 → manner (held b w) ≡ each_once
   set_once k =
       once_is (manner (held b w)) (sym its.sequence ∙ ap (λ (n : ℕ). eqb n 16) k) (sym its.members ∙ ap (λ (n : ℕ). eqb n 16 || eqb n 17) k)
 
-  pub set_members : (unpacked w).kind ≡ 17 → (ms : List Member) × (held b w ≡ inside (Set ms))
+  pub set_members : (octet_of (unpacked w).kind) ≡ 17 → (ms : List Member) × (held b w ≡ inside (Set ms))
   set_members k = the_members (held b w) (set_once k)
 
   -- what the search relies on
-  pub set_sound : (unpacked w).kind ≡ 17 → (came : List ℕ) → length came ≡ 16 → Sound b index w came
-  set_sound k came l = record { ready = R; known = known; noted = l; clear = λ f p. absurd (f (set_once k)) }
+  pub set_sound : (octet_of (unpacked w).kind) ≡ 17 → (came : List ℕ) → Sound b index w came
+  set_sound k came = record { known = known; clear = λ f p. absurd (f (set_once k)) }
 
   pub set_few : (ms : List Member) → held b w ≡ inside (Set ms) → length ms ≤ 16
   unfolding tabled_count parts_of
@@ -79,7 +81,7 @@ module _ {b index : List ℕ} (R : Ready b index) {w : ℕ} (known : Known b ind
   found_is : Sought b (held b w) (since (manner (held b w)) 0) ns s way (Ok x)
   found_is = rw q at S
 
-  pub place_low : (unpacked w).kind ≡ 17 → x.place < 16
+  pub place_low : (octet_of (unpacked w).kind) ≡ 17 → x.place < 16
   unfolding parts_of
   place_low k =
       let (ms, h) = set_members R known k in

@@ -35,13 +35,14 @@ use Rattle.coding.specs.Value.{Value}
 use Rattle.coding.specs.Reading.{read_wrapped, read_kind}
 use Rattle.reader.specs.Answers.{unread}
 use Rattle.reader.specs.Codes.{own_either, either_at, either as first_either}
-use Rattle.reader.specs.Records.{Ready, record_in, IsRecord, read_record}
+use Rattle.reader.specs.Records.{record_in, IsRecord, read_record}
 use Rattle.reader.specs.Wraps.{ended, shut, closing, note_of, Around, identifiers, Headed, read_bare, sent_as, AwaitsTag, behind_last, is_tag, no_tag}
 use Rattle.reader.specs.Wraps.{must_go_on, EntersTag, goes_on, is_over, Opens}
 use Rattle.reader.proofs.Starts.{and_true, and_false, coded_one}
 use Rattle.reader.proofs.Begun.{Fit}
 use Rattle.reader.proofs.Tagging.{first_code_lem, own_at, own_low, count_identifiers, same_at, its_entry, its_record, its_fit}
 use Rattle.reader.proofs.Wrapping.{closing_last, around_more, closing_refused, note_half, note_mark}
+use Rattle.checker.proofs.Ready.{Ready}
 
 -- octets of a part
 pub octets_drop : (m : List ℕ) → Octets m → (n : ℕ) → Octets (drop n m)

@@ -19,9 +19,6 @@ use Rattle.octets.proofs.Answer.{run, refused≢got}
 use Rattle.octets.proofs.Tests.{test}
 use Rattle.ber.specs.Told.{mode}
 use Rattle.table.specs.Syntax.{Table}
-use Rattle.table.specs.Reading.{table_in}
-use Rattle.table.specs.Passes.{Passes}
-use Rattle.records.specs.Entries.{Filled}
 use Rattle.coding.specs.Value.{Value, octets}
 use Rattle.coding.specs.Reading.{read_value, read_message}
 use Rattle.coding.specs.declared.TableCause.TheVariants.{Unknown}
@@ -33,14 +30,10 @@ use Rattle.coding.proofs.Checked.{Says}
 use Rattle.coding.proofs.Refusals.{Within, answers, names, message_says}
 use Rattle.reader.specs.Answers.{cap, judged, unread, told, size}
 use Rattle.reader.specs.Items.{message, read_held}
-use Rattle.reader.specs.Records.{Ready}
 use Rattle.reader.specs.Placed.{Fits}
 use Rattle.reader.specs.declared.answer.Judged.{Judged}
 use Rattle.reader.proofs.ItemsKinds.{message_whole}
 use Rattle.reader.proofs.Told.{told_refused, told_done}
-
-pub ready : (b index : List ℕ) (n : ℕ) → Filled b index n → Passes b (table_in b) n → Ready b index
-ready b index n F P = let q = F.count in record { passes = rw q at P; filled = rw q at F }
 
 -- a message that is accepted holds one item of its type
 accepted_held : (T : Table) (n t : ℕ) (m : List ℕ) (v : Value) (w : List ℕ) → read_message T n t m ≡ got v w

@@ -19,6 +19,7 @@ use Rattle.octets.proofs.Tests.{test}
 use Rattle.ber.specs.Told.{mode}
 use Rattle.table.specs.Syntax.{Member, Plain, Sequence, Set, SequenceOf, SetOf, Choice, Table}
 use Rattle.table.specs.Reading.{table_in, count_in}
+use Rattle.kinds.specs.Kinds.{octet_of}
 use Rattle.records.specs.Entries.{unpacked, span_of}
 use Rattle.records.specs.declared.entry.Entry.{Entry}
 use Rattle.records.specs.declared.entry.Span.{Span}
@@ -30,18 +31,17 @@ use Rattle.coding.proofs.Refusals.{value_shorter}
 use Rattle.reader.specs.Codes.{first_of, untagged, either}
 use Rattle.reader.specs.Items.{Holder, inside, message, manner, parts_of, since, Hand, next as next_part, read_items, filled, assemble}
 use Rattle.reader.specs.Items.{node_size, blank, read_held}
-use Rattle.reader.specs.Records.{Ready, Known, record_in, read_record}
+use Rattle.reader.specs.Records.{record_in, read_record}
 use Rattle.reader.specs.Sought.{held, Sound, Sought, tabled_count}
 use Rattle.reader.specs.Ways.{wrapped}
 use Rattle.reader.specs.declared.search.Choice.{Choice as ChoiceFound}
 use Rattle.reader.specs.declared.node.Placed.{Placed as Spot}
 use Rattle.reader.specs.Placing.{kind_of, has_members, holds_one, onward, node_of, opening_of, absent_in, finished_in, noted_in, said}
 use Rattle.reader.specs.Placing.{flags, way_octets, end_at, Spotted}
-use Rattle.reader.specs.Placed.{Fits, Final, IsPlaced, held_in, value_in, ToPlaceValue, Following}
+use Rattle.reader.specs.Placed.{ToPlace, ToPlaceValue, Final, IsPlaced, held_in, value_in, Following}
 use Rattle.reader.specs.Wraps.{Headed}
 use Rattle.reader.proofs.ItemsFound.{AtItem, item_sought, item_tagged, item_level, item_value, item_headed}
 use Rattle.reader.proofs.PlacedWays.{way_length, inner_under}
-use Rattle.reader.proofs.Searching.{Parted}
 use Rattle.reader.proofs.Tagging.{record_is}
 use Rattle.reader.proofs.PlacedLevels.{kept_got, value_kept}
 use Rattle.reader.proofs.Finding.{good_held}
@@ -57,6 +57,7 @@ use Rattle.reader.proofs.Held.{held_kind, held_kinded, held_span, held_few, held
 use Rattle.reader.proofs.Spans.{Spanned}
 use Rattle.reader.proofs.ItemsSizes.{presence_length}
 use Rattle.reader.proofs.Locating.{set_members}
+use Rattle.checker.proofs.Ready.{Ready}
 
 count_parts : (h : Holder) → holds_one (kind_of h) ≡ false → tabled_count h ≡ length (parts_of h)
 unfolding kind_of tabled_count
@@ -118,20 +119,18 @@ said_long (message t) = omega arith
 -- what is required, with the entry and where its parts stand
 pub record Given (b index : List ℕ) (w : ℕ) (m : List ℕ) (indefinite : Bool) (first : List ℕ) (to : ℕ) (e : Entry) (s : Span) : Type 0 where
   pub ready : Ready b index
-  pub known : Known b index w
-  pub holds : (unpacked w).simple ≡ false
+  pub asked : ToPlace b index w m indefinite first to
+  pub open asked use *
   pub octets : Octets m
-  pub short : length m ≤ 8192
-  pub fits : Fits (held_in b (held b w) indefinite m) to first
   pub entry : e ≡ unpacked w
-  pub span : s ≡ span_of b e.kind e.own
+  pub span : s ≡ span_of b (octet_of e.kind) e.own
 
 -- and what is known before the loop: where the members of a SET begin and where they end, and the buffer once the node was begun
 pub record Started (b index : List ℕ) (w : ℕ) (m : List ℕ) (indefinite : Bool) (first : List ℕ) (to : ℕ) (e : Entry) (s : Span) (ns : List ℕ) (last : ℕ)
     (opened : List ℕ) : Type 0 where
   pub given : Given b index w m indefinite first to e s
   pub spotted : (ms : List Member) → held b w ≡ inside (Set ms) → Spotted (table_in b) ms indefinite m ns last
-  pub opening : opened ≡ sets first to (opening_of e.kind s.count)
+  pub opening : opened ≡ sets first to (opening_of (octet_of e.kind) s.count)
 
 module _ {b index : List ℕ} {w : ℕ} {m : List ℕ} {indefinite : Bool} {first : List ℕ} {to : ℕ} {e : Entry} {s : Span}
     (G : Given b index w m indefinite first to e s) where
@@ -141,7 +140,7 @@ module _ {b index : List ℕ} {w : ℕ} {m : List ℕ} {indefinite : Bool} {firs
   abbrev T : Table
   T = table_in b
 
-  pub its_kind : e.kind ≡ kind_of H
+  pub its_kind : (octet_of e.kind) ≡ kind_of H
   its_kind = held_kind G.ready G.known G.holds e G.entry
 
   its_some : kind_of H ≡ 0 → ⊥
@@ -163,7 +162,7 @@ module _ {b index : List ℕ} {w : ℕ} {m : List ℕ} {indefinite : Bool} {firs
       go (got all u) q f = record { all = all; read = q ∙ ap (got all) (got_rest f); value = got_value f }
       go (refused c l) q f = refused≢got f
 
-  its_spanned : Spanned b H (unpacked w).kind s
+  its_spanned : Spanned b H (octet_of (unpacked w).kind) s
   its_spanned = held_span G.ready G.known G.holds e G.entry s G.span
 
   its_count : s.count ≡ tabled_count H
@@ -178,23 +177,23 @@ module _ {b index : List ℕ} {w : ℕ} {m : List ℕ} {indefinite : Bool} {firs
   its_onward : (place : ℕ) → place + s.step / 2 ≡ onward (kind_of H) place
   its_onward = held_onward G.ready G.known G.holds e G.entry s G.span
 
-  its_node : node_of e.kind s.count ≡ node_size H
+  its_node : node_of (octet_of e.kind) s.count ≡ node_size H
   its_node = held_node G.ready G.known G.holds e G.entry s G.span
 
-  its_opening : opening_of e.kind s.count ≡ said H 0 []
+  its_opening : opening_of (octet_of e.kind) s.count ≡ said H 0 []
   its_opening = held_opening G.ready G.known G.holds e G.entry s G.span
 
   its_room : to + length (octets (assemble H items.all)) ≤ length first
   its_room = rw items.value G.fits.room
 
   -- the node has room
-  pub begin_room : (s.count < 256) × (to + length (opening_of e.kind s.count) ≤ length first)
-      × (to + node_of e.kind s.count ≤ length first)
+  pub begin_room : (s.count < 256) × (to + length (opening_of (octet_of e.kind) s.count) ≤ length first)
+      × (to + node_of (octet_of e.kind) s.count ≤ length first)
   begin_room =
       let l = node_fits H items.all its_some in
       (omega (arith, its_few), rw its_opening (omega (arith, said_long H, its_room)), rw its_node (omega (arith, its_room)))
 
-  pub no_members : (e.kind ≡ 17 → ⊥) → (ms : List Member) → held b w ≡ inside (Set ms) → ⊥
+  pub no_members : (octet_of e.kind ≡ 17 → ⊥) → (ms : List Member) → held b w ≡ inside (Set ms) → ⊥
   unfolding kind_of
   no_members n ms q = n (its_kind ∙ ap kind_of q)
 
@@ -222,7 +221,7 @@ module _ {b index : List ℕ} {w : ℕ} {m : List ℕ} {indefinite : Bool} {firs
   Coming count buf at next j =
       Comes (table_in b) 24 (held b w) m first to (Goes (table_in b) 24 (held b w) indefinite m All X.given.fits.rest ns first to count) buf at next j
 
-  pub state_first : (next : ℕ) → next ≡ to + node_of e.kind s.count → State opened 0 next 0 0
+  pub state_first : (next : ℕ) → next ≡ to + node_of (octet_of e.kind) s.count → State opened 0 next 0 0
   state_first next en =
       let G = X.given in
       loop_first ns last (its_some G) (items G).read (its_room G) X.spotted
@@ -230,9 +229,9 @@ module _ {b index : List ℕ} {w : ℕ} {m : List ℕ} {indefinite : Bool} {firs
 
   module _ {buf : List ℕ} {at next j count : ℕ} (L : State buf at next j count) where
     -- a SET
-    module _ (k17 : e.kind ≡ 17) where
+    module _ (k17 : (octet_of e.kind) ≡ 17) where
       its_set : (ms : List Member) × (held b w ≡ inside (Set ms))
-      its_set = set_members X.given.ready X.given.known (ap (λ (x : Entry). x.kind) (sym X.given.entry) ∙ k17)
+      its_set = set_members X.given.ready X.given.known (ap (λ (x : Entry). octet_of x.kind) (sym X.given.entry) ∙ k17)
 
       set_count : s.count ≡ length its_set.0
       unfolding tabled_count parts_of
@@ -270,25 +269,19 @@ module _ {b index : List ℕ} {w : ℕ} {m : List ℕ} {indefinite : Bool} {firs
             (sorted_comes (good b (table_in b) (count_in b) G.ready.passes) (rw its_set.1 at (good_held G.ready w G.known)) its_skipped
             (omega (arith, set_count)) (F.came l) count (omega (arith, F.least)))
 
-        pub set_came : (k ≡ s.count → ⊥) → (k < s.count) × (1 ≤ get_or ns k 0) × (get_or ns k 0 - 1 ≤ length m)
-        set_came q =
-            let l : k < s.count = omega (arith, F.most) in
-            let c = F.came l in
-            (l, omega arith, (set_comes q).low)
-
     pub state_count : count ≤ 8192
     state_count =
         let G = X.given in
-        test (eqb e.kind 17)
+        test (eqb (octet_of e.kind) 17)
         (λ q.
-        let z = eqb-true e.kind 17 q in
+        let z = eqb-true (octet_of e.kind) 17 q in
         omega (arith, L.few (sym (its_kind G) ∙ z), set_low z, its_few G))
         λ q.
-        let S = L.arriving (λ z. eqb-false e.kind 17 q (its_kind G ∙ z)) in
+        let S = L.arriving (λ z. eqb-false (octet_of e.kind) 17 q (its_kind G ∙ z)) in
         omega (arith, S.few, S.low, G.short)
 
     -- the others
-    module _ (no_set : e.kind ≡ 17 → ⊥) where
+    module _ (no_set : (octet_of e.kind) ≡ 17 → ⊥) where
       other : kind_of (held b w) ≡ 17 → ⊥
       other z = no_set (its_kind X.given ∙ z)
 
@@ -302,7 +295,7 @@ module _ {b index : List ℕ} {w : ℕ} {m : List ℕ} {indefinite : Bool} {firs
       other_count = its_placing.few
 
       -- contents are over
-      module _ (h : Bool) (eh : h ≡ holds_one e.kind) (no : h ≡ false) (o : Bool)
+      module _ (h : Bool) (eh : h ≡ holds_one (octet_of e.kind)) (no : h ≡ false) (o : Bool)
           (eo : o ≡ (none_left (drop at m) || (indefinite && eqb (get_or m at 0) 0))) where
         not_one : holds_one (kind_of (held b w)) ≡ false
         not_one = ap holds_one (sym (its_kind X.given)) ∙ sym eh ∙ no
@@ -310,8 +303,8 @@ module _ {b index : List ℕ} {w : ℕ} {m : List ℕ} {indefinite : Bool} {firs
         its_parts : s.count ≡ length (parts_of (held b w))
         its_parts = its_count X.given ∙ count_parts (held b w) not_one
 
-        pub finish_room : (has_members e.kind ≡ true → to + 4 + s.count ≤ length buf)
-            × (has_members e.kind ≡ false → (to + 5 ≤ length buf) × (count < 65536))
+        pub finish_room : (has_members (octet_of e.kind) ≡ true → to + 4 + s.count ≤ length buf)
+            × (has_members (octet_of e.kind) ≡ false → (to + 5 ≤ length buf) × (count < 65536))
         finish_room =
             let G = X.given in
             let q = its_kind G in (
@@ -321,7 +314,7 @@ module _ {b index : List ℕ} {w : ℕ} {m : List ℕ} {indefinite : Bool} {firs
                   (omega (arith, its_placing.room), omega (arith, other_count, other_low, G.short)),
             )
 
-        pub other_over : o ≡ true → {buf₁ : List ℕ} → buf₁ ≡ finished_in e.kind j s.count count buf to → {end : ℕ} → end ≡ end_at indefinite at
+        pub other_over : o ≡ true → {buf₁ : List ℕ} → buf₁ ≡ finished_in (octet_of e.kind) j s.count count buf to → {end : ℕ} → end ≡ end_at indefinite at
             → (v : Value) (rest : List ℕ) → held_in b (held b w) indefinite m ≡ got v rest → Final v rest m first to buf₁ end next
         other_over y {buf₁} e₁ e₂ =
             let G = X.given in
@@ -331,7 +324,7 @@ module _ {b index : List ℕ} {w : ℕ} {m : List ℕ} {indefinite : Bool} {firs
         other_comes y = arriving_comes other (its_some X.given) its_placing ns (λ z. sym (over_at_lem m at indefinite o eo) ∙ y)
 
       -- one item
-      pub one_comes : (h : Bool) → h ≡ holds_one e.kind → h ≡ true → Coming count buf at next j
+      pub one_comes : (h : Bool) → h ≡ holds_one (octet_of e.kind) → h ≡ true → Coming count buf at next j
       one_comes h eh y =
           let z = ap holds_one (sym (its_kind X.given)) ∙ sym eh ∙ y in
           arriving_comes other (its_some X.given) its_placing ns (λ x. absurd (true≢false (sym z ∙ x)))
@@ -355,18 +348,15 @@ module _ {b index : List ℕ} {w : ℕ} {m : List ℕ} {indefinite : Bool} {firs
     pub headed : let e = unpacked (get_or index u 0) in Headed m at from (either (record_in b e)) e.code
 
   pub sound : Sound b index w blank
-  sound = record { ready = X.given.ready; known = X.given.known; noted = refl; clear = λ z p. blank_clear p }
-
-  parted : Parted b index w blank e s
-  parted = record { sound = sound; entry = X.given.entry; span = X.given.span }
+  sound = record { known = X.given.known; clear = λ z p. blank_clear p }
 
   module _ {buf : List ℕ} {at next j : ℕ} (C : Coming X count buf at next j) where
     pub coming_low : at < length m
     coming_low = omega (arith, got_holds (value_shorter (table_in b) 24 C.part.1.type (drop at m)) C.read, length-drop at m)
 
     -- what is asked of the part next in turn
-    pub coming_asks : Sound b index w blank × (s ≡ span_of b (unpacked w).kind (unpacked w).own) × (at < length m)
-    coming_asks = (sound, X.given.span ∙ ap (λ (x : Entry). span_of b x.kind x.own) X.given.entry, coming_low)
+    pub coming_asks : Sound b index w blank × (s ≡ span_of b (octet_of (unpacked w).kind) (unpacked w).own) × (at < length m)
+    coming_asks = (sound, X.given.span ∙ ap (λ (x : Entry). span_of b (octet_of x.kind) x.own) X.given.entry, coming_low)
 
     -- an item of a part: with the nodes of the way to its record, and those between told of
     module _ {way : List ℕ} {place u depth from : ℕ}
@@ -398,7 +388,7 @@ module _ {b index : List ℕ} {w : ℕ} {m : List ℕ} {indefinite : Bool} {firs
             omega (arith, C.room, ap length A.octets, length-append (way_octets (take depth way)) (octets A.value))
 
         item_chosen : {buf₁ buf₂ : List ℕ} {next₁ : ℕ} → buf₁ ≡ sets buf next (way_octets (take depth way)) → next₁ ≡ next + 4 * depth
-            → (has_members e.kind ≡ true → buf₂ ≡ absent_in j place buf₁ to) → (has_members e.kind ≡ false → buf₂ ≡ buf₁)
+            → (has_members (octet_of e.kind) ≡ true → buf₂ ≡ absent_in j place buf₁ to) → (has_members (octet_of e.kind) ≡ false → buf₂ ≡ buf₁)
             → Chosen j buf₂ at next₁ place u from
         item_chosen {buf₁} {buf₂} e₁ en e₂ e₃ =
             let k = its_kind X.given in
@@ -428,9 +418,6 @@ module _ {b index : List ℕ} {w : ℕ} {m : List ℕ} {indefinite : Bool} {firs
       pub found_room : next + 4 * x.depth ≤ length buf
       found_room = item_room FoundItem within_way
 
-      pub found_low : at + x.from ≤ length m
-      found_low = FoundItem.low
-
     -- it finds one
     pub found_some : next_part (table_in b) (held b w) (since (manner (held b w)) j) blank (drop at m) ≡ none → ⊥
     found_some z = none-ne-some C.part (sym z ∙ C.found)
@@ -439,11 +426,11 @@ module _ {b index : List ℕ} {w : ℕ} {m : List ℕ} {indefinite : Bool} {firs
     abbrev pub Picked : List ℕ → ℕ → ℕ → ℕ → ℕ → Type 0
     Picked buf₁ next₁ place u from =
         (length buf₁ ≡ length buf)
-        × (has_members e.kind ≡ true → to + 4 + place ≤ length buf₁)
-        × ((buf₂ : List ℕ) → (has_members e.kind ≡ true → buf₂ ≡ absent_in j place buf₁ to) → (has_members e.kind ≡ false → buf₂ ≡ buf₁)
+        × (has_members (octet_of e.kind) ≡ true → to + 4 + place ≤ length buf₁)
+        × ((buf₂ : List ℕ) → (has_members (octet_of e.kind) ≡ true → buf₂ ≡ absent_in j place buf₁ to) → (has_members (octet_of e.kind) ≡ false → buf₂ ≡ buf₁)
         → Chosen j buf₂ at next₁ place u from)
 
-    absent_room : (place : ℕ) → place < length (parts_of (held b w)) → has_members e.kind ≡ true → to + 4 + place ≤ length buf
+    absent_room : (place : ℕ) → place < length (parts_of (held b w)) → has_members (octet_of e.kind) ≡ true → to + 4 + place ≤ length buf
     absent_room place l c =
         let z = members_size (held b w) (rw (its_kind X.given) at c) in
         omega (arith, C.room, C.stands.reaches)
@@ -469,7 +456,7 @@ module _ {b index : List ℕ} {w : ℕ} {m : List ℕ} {indefinite : Bool} {firs
         (picked x way ways F e₁ (omega (arith, ed))).2 buf (λ _. e₂) (λ _. refl)
 
   module _ {j : ℕ} {buf : List ℕ} {at next place u from : ℕ} (R : Chosen j buf at next place u from) where
-    pub chosen_node : (has_members e.kind ≡ true → to + 4 + place < length buf) × (e.kind ≡ 50 → (to + 3 < length buf) × (place < 256))
+    pub chosen_node : (has_members (octet_of e.kind) ≡ true → to + 4 + place < length buf) × (octet_of e.kind ≡ 50 → (to + 3 < length buf) × (place < 256))
     chosen_node =
         let G = X.given in
         let k = its_kind G in
@@ -486,7 +473,7 @@ module _ {b index : List ℕ} {w : ℕ} {m : List ℕ} {indefinite : Bool} {firs
         let G = X.given in
         rw (its_onward G place) (omega (arith, onward_most (kind_of (held b w)) place, R.prepared.most, parts_few G))
 
-    module _ {buf₁ : List ℕ} (e₁ : buf₁ ≡ noted_in e.kind place buf to) where
+    module _ {buf₁ : List ℕ} (e₁ : buf₁ ≡ noted_in (octet_of e.kind) place buf to) where
       its_noted : buf₁ ≡ noted_in (kind_of (held b w)) place buf to
       its_noted = rw (its_kind X.given) at e₁
 
@@ -494,18 +481,15 @@ module _ {b index : List ℕ} {w : ℕ} {m : List ℕ} {indefinite : Bool} {firs
       its_value = record_read X.given.ready u R.low (drop at m) R.prepared.inner.value R.prepared.behind R.prepared.inner.read
 
       -- the value is placed
-      pub chosen_asks : (way : List ℕ) → length way ≡ 128 → ToPlaceValue b index (get_or index u 0) m at from buf₁ next way
-      chosen_asks way ways =
-          let G = X.given in
+      pub chosen_asks : ToPlaceValue b index (get_or index u 0) m at from buf₁ next
+      chosen_asks =
           record {
-            ready = G.ready;
             type = u;
             low = R.low;
             entry = refl;
             tagged = R.tagged;
-            short = G.short;
+            short = X.given.short;
             headed = R.headed;
-            ways = ways;
             fits = record {
               value = R.prepared.inner.value;
               rest = R.prepared.behind;
@@ -525,31 +509,31 @@ module _ {b index : List ℕ} {w : ℕ} {m : List ℕ} {indefinite : Bool} {firs
         pub chosen_further : at < r.end
         chosen_further = ready_further R.prepared its_final.within its_final.behind
 
-        pub chosen_next : (h : Bool) → h ≡ holds_one e.kind → h ≡ false → State X buf₂ r.end r.next (place + s.step / 2) (count + 1)
+        pub chosen_next : (h : Bool) → h ≡ holds_one (octet_of e.kind) → h ≡ false → State X buf₂ r.end r.next (place + s.step / 2) (count + 1)
         chosen_next h eh z =
             let G = X.given in
             rw (its_onward G place) ((ready_placed R.prepared its_noted its_final).0 (ap holds_one (sym (its_kind G)) ∙ sym eh ∙ z))
 
-        pub chosen_one : (h : Bool) → h ≡ holds_one e.kind → h ≡ true → (v : Value) (rest : List ℕ) → held_in b (held b w) indefinite m ≡ got v rest
+        pub chosen_one : (h : Bool) → h ≡ holds_one (octet_of e.kind) → h ≡ true → (v : Value) (rest : List ℕ) → held_in b (held b w) indefinite m ≡ got v rest
             → Final v rest m first to buf₂ r.end r.next
         chosen_one h eh z =
             let G = X.given in
             placed G ((ready_placed R.prepared its_noted its_final).1 (ap holds_one (sym (its_kind G)) ∙ sym eh ∙ z))
 
         -- fewer members are left of a SET, or fewer octets
-        pub chosen_fewer : (at₀ j₀ : ℕ) → (e.kind ≡ 17 → j₀ ≤ j) → ((e.kind ≡ 17 → ⊥) → at ≡ at₀)
-            → if (eqb e.kind 17) (s.count - (place + s.step / 2)) (λ _. length m - r.end)
-            < if (eqb e.kind 17) (s.count - j₀) (λ _. length m - at₀)
+        pub chosen_fewer : (at₀ j₀ : ℕ) → (octet_of e.kind ≡ 17 → j₀ ≤ j) → ((octet_of e.kind ≡ 17 → ⊥) → at ≡ at₀)
+            → if (eqb (octet_of e.kind) 17) (s.count - (place + s.step / 2)) (λ _. length m - r.end)
+            < if (eqb (octet_of e.kind) 17) (s.count - j₀) (λ _. length m - at₀)
         unfolding if
         chosen_fewer at₀ j₀ f g =
             let G = X.given in
-            test (eqb e.kind 17)
+            test (eqb (octet_of e.kind) 17)
             (λ q.
-            let z = eqb-true e.kind 17 q in
+            let z = eqb-true (octet_of e.kind) 17 q in
             let c = set_parts (sym (its_kind G) ∙ z) in
             let o = its_onward G place ∙ set_onward (kind_of (held b w)) place (sym (its_kind G) ∙ z) in
             rw q (omega (arith, R.prepared.most, R.least, f z)))
-            λ q. let z = eqb-false e.kind 17 q in rw q (omega (arith, chosen_within, chosen_further, g z))
+            λ q. let z = eqb-false (octet_of e.kind) 17 q in rw q (omega (arith, chosen_within, chosen_further, g z))
           where
             set_parts : kind_of (held b w) ≡ 17 → s.count ≡ length (parts_of (held b w))
             set_parts q = its_count X.given ∙ count_parts (held b w) (rw q refl)

@@ -4,7 +4,7 @@
 use borrow.Author.Tests.{eq-eqb, eqb-true}
 use lib.Dec.{eqb}
 use lib.ListN.{length, get_or, take, drop, length-drop}
-use lib.Seq.{sets, length-sets, take-length, length-take-le, drop-drop, drop-length}
+use lib.Seq.{sets, take-length, length-take-le, drop-drop, drop-length}
 use mathlib.Core.Bool.{Bool, true, false, false≢true}
 use mathlib.Core.List.{List, [], ◌∷◌}
 use mathlib.Core.Option.{Option, some, none}
@@ -33,6 +33,8 @@ use Rattle.table.specs.Syntax.{Simple, Boolean, Integer, BitString, OctetString,
 use Rattle.table.specs.Syntax.{Plain, Record, is_choice}
 use Rattle.table.specs.Reading.{numbers_at, table_in, count_in}
 use Rattle.table.specs.Octets.{kind}
+use Rattle.kinds.specs.Kinds.{octet_of}
+use Rattle.kinds.specs.declared.Kind.TheVariants.{Message}
 use Rattle.records.specs.Entries.{unpacked, Entered, outermost_code, explicit_count}
 use Rattle.records.specs.declared.entry.Entry.{Entry}
 use Rattle.records.proofs.Promises.{entered_kind, entered_enumerated}
@@ -45,8 +47,8 @@ use Rattle.reader.specs.Answers.{judged, unread, told}
 use Rattle.reader.specs.Items.{Holder, message, next}
 use Rattle.reader.specs.Leaves.{leaf_of, Lawful, one_octet, one_to_eight, some_unused, any_octets, no_octet, small_number, a_time}
 use Rattle.reader.specs.Leaves.{is_in_segments, read_segments, read_leaf, Carried, by_itself, by_segments, ToPlaceLeaf, LeafPlaced}
-use Rattle.reader.specs.Placed.{Fits, Final, IsPlaced, held_in, value_in, ToPlace, ToPlaceValue}
-use Rattle.reader.specs.Records.{Ready, of_record, of_message, holder_in, IsRecord, read_record}
+use Rattle.reader.specs.Placed.{ToPlace, ToPlaceValue, Fits, Final, IsPlaced, held_in, value_in}
+use Rattle.reader.specs.Records.{of_record, of_message, holder_in, IsRecord, read_record}
 use Rattle.reader.specs.Sought.{held}
 use Rattle.reader.specs.Wraps.{closing, Around, read_bare, Opens}
 use Rattle.reader.specs.declared.answer.Judged.{Judged}
@@ -60,6 +62,7 @@ use Rattle.reader.proofs.Told.{same_judged}
 use Rattle.reader.proofs.ValueParts.{Under, Within, Item, Filling, under_bare, under_tags, tags_refused, no_choice, item_unsized, contents_bare}
 use Rattle.reader.proofs.ValueParts.{contents_sized, Rest as AroundRest, C, S, size_c, is_plain, leaf_read, leaf_lead}
 use Rattle.reader.proofs.ValueParts.{Held, Fine, fine, reads}
+use Rattle.checker.proofs.Ready.{Ready}
 
 -- A leaf that was accepted, by the number of its kind.
 minimal_some : (c : List ℕ) → minimal c ≡ true → 1 ≤ length c
@@ -154,7 +157,6 @@ itself by_itself = (refl, refl)
 
 -- under the tags of a value v of w, behind which `rest` follows: the item is read with that value, and `left` follows it
 pub record Accepted (b : List ℕ) (w : ℕ) (m : List ℕ) (at : ℕ) (v : Value) (rest notes : List ℕ) (at₁ from₁ end : ℕ) : Type 0 where
-  pub sized : length notes ≡ 4
   pub low : at ≤ at₁
   pub deeper : is_choice (record_of b w).body ≡ true → at < at₁
   pub under : Under b (record_of b w) m at (take (unpacked w).explicit notes) at₁ from₁ end
@@ -169,7 +171,7 @@ pub record Contents (b : List ℕ) (w : ℕ) (m : List ℕ) (at lead end : ℕ) 
   pub high : stop ≤ end
   pub simple : (unpacked w).simple ≡ true
       → (let c = take (stop - start) (drop start m) in
-      (d u : List ℕ) × Carried (unpacked w).kind c (is_in_segments (get_or m lead 0)) d u × Lawful (unpacked w).kind d × (v ≡ leaf (leaf_of (unpacked w).kind d))
+      (d u : List ℕ) × Carried (octet_of (unpacked w).kind) c (is_in_segments (get_or m lead 0)) d u × Lawful (octet_of (unpacked w).kind) d × (v ≡ leaf (leaf_of (octet_of (unpacked w).kind) d))
       × ((p : ℕ) → p ≤ length c → u ≡ drop p c → (start + p ≤ end) × (left ≡ drop (start + p) (take end m))))
   pub holds : (unpacked w).simple ≡ false
       → (let c = take (stop - start) (drop start m) in
@@ -177,28 +179,14 @@ pub record Contents (b : List ℕ) (w : ℕ) (m : List ℕ) (at lead end : ℕ) 
       × ((p : ℕ) → p ≤ length c → u ≡ drop p c → (start + p ≤ end) × (left ≡ drop (start + p) (take end m))))
 
 -- the value is in the buffer
-pub record Stored (v : Value) (m : List ℕ) (end : ℕ) (left first : List ℕ) (to : ℕ) (buf : List ℕ) (stop next : ℕ) (way : List ℕ) : Type 0 where
+pub record Stored (v : Value) (m : List ℕ) (end : ℕ) (left first : List ℕ) (to : ℕ) (buf : List ℕ) (stop next : ℕ) : Type 0 where
   pub ends : next ≡ to + length (octets v)
   pub buffer : buf ≡ sets first to (octets v)
   pub within : stop ≤ end
   pub behind : left ≡ drop stop (take end m)
-  pub ways : length way ≡ 128
 
--- the same by other names
-pub accepted_as : {b : List ℕ} {w : ℕ} {m : List ℕ} {at : ℕ} {v : Value} {rest n n₁ : List ℕ} {a f e a₁ f₁ e₁ : ℕ}
-    → Accepted b w m at v rest n a f e → n₁ ≡ n → a₁ ≡ a → f₁ ≡ f → e₁ ≡ e → Accepted b w m at v rest n₁ a₁ f₁ e₁
-accepted_as U en ea ef ee = rw (en, ea, ef, ee) U
-
-pub contents_as : {b : List ℕ} {w : ℕ} {m : List ℕ} {at lead end : ℕ} {v : Value} {left : List ℕ} {s e s₁ e₁ : ℕ} {k k₁ : Bool}
-    → Contents b w m at lead end v left s e k → s₁ ≡ s → e₁ ≡ e → k₁ ≡ k → Contents b w m at lead end v left s₁ e₁ k₁
-contents_as X es ee ek = rw (es, ee, ek) X
-
-pub stored_as : {v : Value} {m : List ℕ} {end : ℕ} {left first : List ℕ} {to : ℕ} {b b₁ : List ℕ} {s n s₁ n₁ : ℕ} {w w₁ : List ℕ}
-    → Stored v m end left first to b s n w → b₁ ≡ b → w₁ ≡ w → s₁ ≡ s → n₁ ≡ n → Stored v m end left first to b₁ s₁ n₁ w₁
-stored_as S eb ew es en = rw (eb, ew, es, en) S
-
-module _ {b index : List ℕ} {w : ℕ} {m : List ℕ} {at from : ℕ} {buf : List ℕ} {to : ℕ} {way : List ℕ}
-    (P : ToPlaceValue b index w m at from buf to way) where
+module _ {b index : List ℕ} {w : ℕ} {m : List ℕ} {at from : ℕ} {buf : List ℕ} {to : ℕ} (ready : Ready b index)
+    (P : ToPlaceValue b index w m at from buf to) where
   abbrev R : Record
   R = record_of b w
 
@@ -212,23 +200,23 @@ module _ {b index : List ℕ} {w : ℕ} {m : List ℕ} {at from : ℕ} {buf : Li
   its_own = (P.type, P.low, P.entry)
 
   its : Entered b (unpacked w) (table_in b P.type)
-  its = its_entry P.ready its_own
+  its = its_entry ready its_own
 
   same_record : R ≡ table_in b P.type
-  same_record = its_record P.ready its_own
+  same_record = its_record ready its_own
 
   same_body : R.body ≡ (table_in b P.type).body
   same_body = ap (λ (r : Record). r.body) same_record
 
-  choice_is : eqb (unpacked w).kind 50 ≡ is_choice R.body
-  choice_is = its_choice P.ready its_own (unpacked w) refl
+  choice_is : eqb (octet_of (unpacked w).kind) 50 ≡ is_choice R.body
+  choice_is = its_choice ready its_own (unpacked w) refl
 
-  accepted : {notes : List ℕ} {at₁ from₁ end : ℕ} → length notes ≡ 4 → at ≤ at₁ → (is_choice R.body ≡ true → at < at₁)
+  accepted : {notes : List ℕ} {at₁ from₁ end : ℕ} → at ≤ at₁ → (is_choice R.body ≡ true → at < at₁)
       → Under b R m at (take (unpacked w).explicit notes) at₁ from₁ end → Accepted b w m at Val Rest notes at₁ from₁ end
-  accepted {notes} {at₁} {from₁} {end} l low d U =
+  accepted {notes} {at₁} {from₁} {end} low d U =
       let y = read_bare b 24 R (drop at₁ (take end m)) in
       let g = closing_through m (length m) (take (unpacked w).explicit notes) end U.around y Val Rest (sym (U.whole 24) ∙ P.fits.is) in
-      record { sized = l; low = low; deeper = d; under = U; left = g.0; is = g.1; closes = g.2 }
+      record { low = low; deeper = d; under = U; left = g.0; is = g.1; closes = g.2 }
 
   -- no tag is explicit
   module _ (none : (unpacked w).explicit ≤ 0) where
@@ -241,19 +229,19 @@ module _ {b index : List ℕ} {w : ℕ} {m : List ℕ} {at from : ℕ} {buf : Li
         let z = nil_of T.tags (omega (arith, q, its.explicit)) in
         P.tagged (rw z refl)
 
-    pub under_none : (notes : List ℕ) → length notes ≡ 4 → Accepted b w m at Val Rest notes at from (length m)
-    under_none notes l =
-        accepted l (omega arith) (λ c. absurd (none_choice c)) (under_bare P.ready its_own (unpacked w) refl m at from none P.headed notes)
+    pub under_none : (notes : List ℕ) → Accepted b w m at Val Rest notes at from (length m)
+    under_none notes =
+        accepted (omega arith) (λ c. absurd (none_choice c)) (under_bare ready its_own (unpacked w) refl m at from none P.headed notes)
 
   -- explicit tags were opened
   module _ (notes : List ℕ) (y : Result Inner Unread) (O : Opens b R m at (take (unpacked w).explicit notes) y) where
     pub must_open : (c : ReadingCause) (l : ℕ) → y ≡ unread c l → ⊥
-    must_open c l e = refused≢got (sym (tags_refused P.ready its_own m at _ y O c l e 24) ∙ P.fits.is)
+    must_open c l e = refused≢got (sym (tags_refused ready its_own m at _ y O c l e 24) ∙ P.fits.is)
 
-    pub under_open : length notes ≡ 4 → (x : Inner) → y ≡ Ok x → Accepted b w m at Val Rest notes x.at x.from x.end
-    under_open l x e =
+    pub under_open : (x : Inner) → y ≡ Ok x → Accepted b w m at Val Rest notes x.at x.from x.end
+    under_open x e =
         let q : Opens b R m at (take (unpacked w).explicit notes) (Ok x) = rw e at O in
-        accepted l (omega (arith, q.0)) (λ _. q.0) (under_tags P.ready its_own m at _ y O x e)
+        accepted (omega (arith, q.0)) (λ _. q.0) (under_tags ready its_own m at _ y O x e)
 
   module _ {notes : List ℕ} {at₁ from₁ end : ℕ} (U : Accepted b w m at Val Rest notes at₁ from₁ end) where
     -- where its contents stand
@@ -261,14 +249,13 @@ module _ {b index : List ℕ} {w : ℕ} {m : List ℕ} {at from : ℕ} {buf : Li
       abbrev item : Item b index w m at 24
       item =
           record {
-            ready = P.ready;
+            ready = ready;
             known = its_own;
             all_octets = om;
             short = P.short;
             entry = unpacked w;
             entered = refl;
             notes = notes;
-            four = U.sized;
             at = at₁;
             from = from₁;
             end = end;
@@ -280,14 +267,14 @@ module _ {b index : List ℕ} {w : ℕ} {m : List ℕ} {at from : ℕ} {buf : Li
         Y = record { item = item; start = start; stop = stop; indefinite = indefinite; within = W }
 
         simple_part : (unpacked w).simple ≡ true
-            → (d u : List ℕ) × Carried (unpacked w).kind (C Y) (is_in_segments (get_or m at₁ 0)) d u × Lawful (unpacked w).kind d × (Val ≡ leaf (leaf_of (unpacked w).kind d))
+            → (d u : List ℕ) × Carried (octet_of (unpacked w).kind) (C Y) (is_in_segments (get_or m at₁ 0)) d u × Lawful (octet_of (unpacked w).kind) d × (Val ≡ leaf (leaf_of (octet_of (unpacked w).kind) d))
             × ((p : ℕ) → p ≤ length (C Y) → u ≡ drop p (C Y) → (start + p ≤ end) × (U.left ≡ drop (start + p) (take end m)))
         simple_part s =
             let (k, q) = is_plain Y s in
             let l = length (S Y) in
             let (x, u, e, f) = then_through (read_leaf k W.parts indefinite l (end - stop) (C Y)) _ Val U.left (sym (leaf_read Y s k q) ∙ U.is) in
             let (d, a, c) = carried_of k W.parts indefinite l (end - stop) (C Y) x u e in
-            let i : (unpacked w).kind ≡ kind (Plain k) = entered_kind its ∙ ap kind (sym same_body ∙ q) in
+            let i : (octet_of (unpacked w).kind) ≡ kind (Plain k) = entered_kind its ∙ ap kind (sym same_body ∙ q) in
             let y = content_leaf c (entered_small its ob k (sym same_body ∙ q)) in (
               d,
               u,
@@ -326,11 +313,11 @@ module _ {b index : List ℕ} {w : ℕ} {m : List ℕ} {at from : ℕ} {buf : Li
         contents_at low = record { low = low; order = W.ordered; high = W.high; simple = simple_part; holds = items_part }
 
       -- a CHOICE stands in no item of its own
-      pub choice_contents : (unpacked w).kind ≡ 50 → Contents b w m at at₁ end Val U.left at₁ end false
-      choice_contents k = contents_at at₁ end false (contents_bare item k) (U.deeper (sym choice_is ∙ eq-eqb (unpacked w).kind 50 k))
+      pub choice_contents : (octet_of (unpacked w).kind) ≡ 50 → Contents b w m at at₁ end Val U.left at₁ end false
+      choice_contents k = contents_at at₁ end false (contents_bare item k) (U.deeper (sym choice_is ∙ eq-eqb (octet_of (unpacked w).kind) 50 k))
 
       -- an item whose length is read again
-      pub read_contents : ((unpacked w).kind ≡ 50 → ⊥) → (x : Extent)
+      pub read_contents : (octet_of (unpacked w).kind ≡ 50 → ⊥) → (x : Extent)
           → x ≡ again_at (take end m) from₁
           → Contents b w m at at₁ end Val U.left x.start x.end x.indefinite
       read_contents k x again =
@@ -356,9 +343,6 @@ module _ {b index : List ℕ} {w : ℕ} {m : List ℕ} {at from : ℕ} {buf : Li
       pub part_less : length Part < length m
       part_less = omega (arith, part_size, X.low, X.order, X.high, U.under.high)
 
-      pub lead_inside : at₁ < length m
-      lead_inside = omega (arith, U.under.some, U.under.high)
-
       pub part_high : stop ≤ length m
       part_high = omega (arith, X.high, U.under.high)
 
@@ -373,25 +357,25 @@ module _ {b index : List ℕ} {w : ℕ} {m : List ℕ} {at from : ℕ} {buf : Li
         abbrev LeftIn : List ℕ
         LeftIn = (X.simple its_simple).1
 
-        its_kind : e.kind ≡ (unpacked w).kind
-        its_kind = ap (λ (x : Entry). x.kind) ee
+        its_kind : (octet_of e.kind) ≡ (octet_of (unpacked w).kind)
+        its_kind = ap (λ (x : Entry). octet_of x.kind) ee
 
-        its_carried : Carried e.kind Part (is_in_segments (get_or m at₁ 0)) Its LeftIn
+        its_carried : Carried (octet_of e.kind) Part (is_in_segments (get_or m at₁ 0)) Its LeftIn
         its_carried = subst (λ (i : ℕ). Carried i Part (is_in_segments (get_or m at₁ 0)) Its LeftIn) (sym its_kind) (X.simple its_simple).2
 
-        its_value : Val ≡ leaf (leaf_of e.kind Its)
+        its_value : Val ≡ leaf (leaf_of (octet_of e.kind) Its)
         its_value = (X.simple its_simple).4 ∙ ap (λ (i : ℕ). leaf (leaf_of i Its)) (sym its_kind)
 
-        its_lawful : Lawful e.kind Its
+        its_lawful : Lawful (octet_of e.kind) Its
         its_lawful = subst (λ (i : ℕ). Lawful i Its) (sym its_kind) (X.simple its_simple).3
 
-        its_room : to + length (leaf_octets (leaf_of e.kind Its)) ≤ length buf
+        its_room : to + length (leaf_octets (leaf_of (octet_of e.kind) Its)) ≤ length buf
         unfolding octets
         its_room = subst (λ (v : Value). to + length (octets v) ≤ length buf) its_value P.fits.room
 
         -- the value is in the buffer, and its contents end at a place of the part
-        its_stored : (buf₁ : List ℕ) (p next : ℕ) → p ≤ length Part → LeftIn ≡ drop p Part → next ≡ to + length (leaf_octets (leaf_of e.kind Its))
-            → buf₁ ≡ sets buf to (leaf_octets (leaf_of e.kind Its)) → Stored Val m end U.left buf to buf₁ (start + p) next way
+        its_stored : (buf₁ : List ℕ) (p next : ℕ) → p ≤ length Part → LeftIn ≡ drop p Part → next ≡ to + length (leaf_octets (leaf_of (octet_of e.kind) Its))
+            → buf₁ ≡ sets buf to (leaf_octets (leaf_of (octet_of e.kind) Its)) → Stored Val m end U.left buf to buf₁ (start + p) next
         unfolding octets
         its_stored buf₁ p next h z en eb =
             let q = (X.simple its_simple).5 p h z in
@@ -400,29 +384,28 @@ module _ {b index : List ℕ} {w : ℕ} {m : List ℕ} {at from : ℕ} {buf : Li
               buffer = eb ∙ ap (λ (v : Value). sets buf to (octets v)) (sym its_value);
               within = q.0;
               behind = q.1;
-              ways = P.ways;
             }
 
         -- in segments
         module _ (parts : is_in_segments (get_or m at₁ 0) ≡ true) where
-          pub parts_ask : ToPlaceLeaf e.kind Part true (length buf) to
+          pub parts_ask : ToPlaceLeaf (octet_of e.kind) Part true (length buf) to
           parts_ask =
               record {
                 contents = Its;
                 rest = LeftIn;
-                carried = subst (λ (t : Bool). Carried e.kind Part t Its LeftIn) parts its_carried;
+                carried = subst (λ (t : Bool). Carried (octet_of e.kind) Part t Its LeftIn) parts its_carried;
                 lawful = its_lawful;
                 short = omega (arith, part_less, P.short);
                 fits = its_room;
               }
 
           module _ (buf₁ : List ℕ) (r : Placed)
-              (placed : (p : ToPlaceLeaf e.kind Part true (length buf) to) → LeafPlaced e.kind p.contents p.rest Part buf to buf₁ r) where
-            its_placed : LeafPlaced e.kind Its LeftIn Part buf to buf₁ r
+              (placed : (p : ToPlaceLeaf (octet_of e.kind) Part true (length buf) to) → LeafPlaced (octet_of e.kind) p.contents p.rest Part buf to buf₁ r) where
+            its_placed : LeafPlaced (octet_of e.kind) Its LeftIn Part buf to buf₁ r
             unfolding parts_ask
             its_placed = placed parts_ask
 
-            pub parts_stored : Stored Val m end U.left buf to buf₁ (start + r.end) r.next way
+            pub parts_stored : Stored Val m end U.left buf to buf₁ (start + r.end) r.next
             parts_stored = its_stored buf₁ r.end r.next its_placed.within its_placed.left its_placed.next its_placed.buffer
 
             pub parts_end : start + r.end ≤ 8192
@@ -431,40 +414,38 @@ module _ {b index : List ℕ} {w : ℕ} {m : List ℕ} {at from : ℕ} {buf : Li
         -- by themselves
         module _ (whole : is_in_segments (get_or m at₁ 0) ≡ false) where
           its_own_contents : (Its ≡ Part) × (LeftIn ≡ [])
-          its_own_contents = itself (subst (λ (t : Bool). Carried e.kind Part t Its LeftIn) whole its_carried)
+          its_own_contents = itself (subst (λ (t : Bool). Carried (octet_of e.kind) Part t Its LeftIn) whole its_carried)
 
           abbrev LeafOf : Leaf
-          LeafOf = leaf_of e.kind Part
+          LeafOf = leaf_of (octet_of e.kind) Part
 
-          same_leaf : leaf_of e.kind Its ≡ LeafOf
-          same_leaf = ap (leaf_of e.kind) its_own_contents.0
+          same_leaf : leaf_of (octet_of e.kind) Its ≡ LeafOf
+          same_leaf = ap (leaf_of (octet_of e.kind)) its_own_contents.0
 
-          pub leaf_asks : Lawful e.kind Part × (length Part ≤ 8192) × (to + length (leaf_octets LeafOf) ≤ length buf)
+          pub leaf_asks : Lawful (octet_of e.kind) Part × (length Part ≤ 8192) × (to + length (leaf_octets LeafOf) ≤ length buf)
           leaf_asks = (
-            subst (Lawful e.kind) its_own_contents.0 its_lawful,
+            subst (Lawful (octet_of e.kind)) its_own_contents.0 its_lawful,
             omega (arith, part_less, P.short),
             subst (λ (x : Leaf). to + length (leaf_octets x) ≤ length buf) same_leaf its_room,
           )
 
           pub leaf_stored : (buf₁ : List ℕ) (next : ℕ) → next ≡ to + length (leaf_octets LeafOf) → buf₁ ≡ sets buf to (leaf_octets LeafOf)
-              → Stored Val m end U.left buf to buf₁ stop next way
+              → Stored Val m end U.left buf to buf₁ stop next
           leaf_stored buf₁ next en eb =
               let h : start + length Part ≡ stop = omega (arith, part_size, X.order) in
-              subst (λ (j : ℕ). Stored Val m end U.left buf to buf₁ j next way) h
+              subst (λ (j : ℕ). Stored Val m end U.left buf to buf₁ j next) h
               (its_stored buf₁ (length Part) next (omega arith) (its_own_contents.1 ∙ sym (drop-length Part))
               (en ∙ ap (λ (x : Leaf). to + length (leaf_octets x)) (sym same_leaf)) (eb ∙ ap (λ (x : Leaf). sets buf to (leaf_octets x)) (sym same_leaf)))
 
       -- items
       module _ (holds : (unpacked w).simple ≡ false) where
-        pub items_ask : ToPlace b index w Part indefinite buf to way
+        pub items_ask : ToPlace b index w Part indefinite buf to
         items_ask =
             let (u, e, f) = X.holds holds in
             record {
-              ready = P.ready;
               known = of_record P.type P.low P.entry;
               holds = holds;
               short = omega (arith, part_less, P.short);
-              ways = P.ways;
               fits = record { value = Val; rest = u; is = e; room = P.fits.room };
             }
 
@@ -475,16 +456,13 @@ module _ {b index : List ℕ} {w : ℕ} {m : List ℕ} {at from : ℕ} {buf : Li
           pub items_end : start + r.end ≤ 8192
           items_end = omega (arith, ((X.holds holds).2 r.end ItsFinal.within ItsFinal.behind).0, U.under.high, P.short)
 
-          pub items_stored : (way₁ : List ℕ) → length way₁ ≡ 128 → Stored Val m end U.left buf to buf₁ (start + r.end) r.next way₁
-          items_stored way₁ l =
+          pub items_stored : Stored Val m end U.left buf to buf₁ (start + r.end) r.next
+          items_stored =
               let q = (X.holds holds).2 r.end ItsFinal.within ItsFinal.behind in
-              record { ends = ItsFinal.ends; buffer = ItsFinal.buffer; within = q.0; behind = q.1; ways = l }
+              record { ends = ItsFinal.ends; buffer = ItsFinal.buffer; within = q.0; behind = q.1 }
 
     -- the value's end
-    module _ {buf₁ : List ℕ} {stop next : ℕ} {way₁ : List ℕ} (S : Stored Val m end U.left buf to buf₁ stop next way₁) where
-      pub stored_length : length buf₁ ≡ length buf
-      stored_length = ap length S.buffer ∙ length-sets buf to (octets Val)
-
+    module _ {buf₁ : List ℕ} {stop next : ℕ} (S : Stored Val m end U.left buf to buf₁ stop next) where
       ended_placed : (e : ℕ) → e ≤ length m → Rest ≡ drop e m → IsPlaced (value_in b w (drop at m)) m to buf buf₁ (record { end = e; next = next })
       ended_placed e l q v rest z =
           let k = sym P.fits.is ∙ z in
@@ -506,11 +484,10 @@ module _ {b index : List ℕ} {w : ℕ} {m : List ℕ} {at from : ℕ} {buf : Li
           ended_placed stop (omega (arith, S.within)) q
 
       pub close_asks : (e : Entry) → e ≡ unpacked w
-          → (e.explicit ≤ 4) × (length notes ≡ 4) × (stop ≤ end) × (length m ≤ 8192) × (0 < 16386) × Around (length m) (take e.explicit notes) end
+          → (e.explicit ≤ 4) × (stop ≤ end) × (length m ≤ 8192) × (0 < 16386) × Around (length m) (take e.explicit notes) end
       close_asks e ee =
           let k : e.explicit ≡ (unpacked w).explicit = ap (λ (x : Entry). x.explicit) ee in (
-            omega (arith, its_count P.ready its_own, its_few P.ready its_own),
-            U.sized,
+            omega (arith, its_count ready its_own, its_few ready its_own),
             S.within,
             P.short,
             omega arith,
@@ -548,20 +525,18 @@ module _ {b index : List ℕ} {w : ℕ} {m : List ℕ} {at from : ℕ} {buf : Li
             ended_placed last (omega arith) (rest_behind ∙ ap (λ (i : ℕ). drop i m) (sym z))
 
 -- a whole message
-module _ (b : List ℕ) (w t : ℕ) (whole : unpacked w ≡ record { code = 0; own = t; kind = 51; explicit = 0; simple = false }) (m : List ℕ) where
+module _ (b : List ℕ) (w t : ℕ) (whole : unpacked w ≡ record { code = 0; own = t; kind = Message; explicit = 0; simple = false }) (m : List ℕ) where
   whole_held : held b w ≡ message t
   unfolding holder_in if
   whole_held = rw whole refl
 
-  pub whole_asks : {index buf way : List ℕ} {to : ℕ} → Ready b index → t < count_in b → length m ≤ 8192 → length way ≡ 128
-      → Fits (held_in b (message t) false m) to buf → ToPlace b index w m false buf to way
-  whole_asks {buf = buf} {to = to} R h l y F =
+  pub whole_asks : {index buf : List ℕ} {to : ℕ} → t < count_in b → length m ≤ 8192 → Fits (held_in b (message t) false m) to buf
+      → ToPlace b index w m false buf to
+  whole_asks {buf = buf} {to = to} h l F =
       record {
-        ready = R;
         known = of_message t h whole;
         holds = ap (λ (e : Entry). e.simple) whole;
         short = l;
-        ways = y;
         fits = subst (λ (x : Holder). Fits (held_in b x false m) to buf) (sym whole_held) F;
       }
 

@@ -19,6 +19,7 @@ use Rattle.octets.specs.Numbers.{if_below}
 use Rattle.octets.proofs.Tests.{test}
 use Rattle.table.specs.Syntax.{Member, Body, Plain, Sequence, Set, SequenceOf, SetOf, Choice, references}
 use Rattle.table.specs.Reading.{table_in, count_in}
+use Rattle.kinds.specs.Kinds.{octet_of}
 use Rattle.records.specs.Entries.{unpacked, span_of}
 use Rattle.records.specs.declared.entry.Entry.{Entry}
 use Rattle.records.specs.declared.entry.Span.{Span}
@@ -26,8 +27,8 @@ use Rattle.coding.specs.Awaited.{types}
 use Rattle.reader.specs.Codes.{under, starts_with, search_in, hit}
 use Rattle.reader.specs.Items.{Holder, inside, message, Manner, in_turn, each_once, repeated, single, manner, parts_of, optionals, Placed, left}
 use Rattle.reader.specs.Items.{awaits, remains, some_of, since, is_single, first}
-use Rattle.reader.specs.Records.{Ready, Known, of_record, of_message, holder_in, Begins, Finds}
-use Rattle.reader.specs.Sought.{held, Sound, place_of, tabled, tabled_count, direct, unfit_cause, Indirect}
+use Rattle.reader.specs.Records.{Known, of_record, of_message, holder_in, Begins, Finds}
+use Rattle.reader.specs.Sought.{held, place_of, tabled, tabled_count, direct, unfit_cause, Indirect}
 use Rattle.reader.specs.declared.search.Choice.{Choice as Chosen}
 use Rattle.reader.specs.declared.search.Under.{Under}
 use Rattle.reader.proofs.Among.{starts_is}
@@ -35,6 +36,8 @@ use Rattle.reader.proofs.Items.{pending_free, no_cons}
 use Rattle.reader.proofs.ItemsSearch.{optional_types}
 use Rattle.reader.proofs.Spans.{PartAt, Spanned, turns_by, turn_is, turn_not, by_member, entry_of, held_body, its, awaits_none, awaits_hit}
 use Rattle.reader.proofs.Spans.{awaits_skip, awaits_stop, awaits_come, tabled_some, tabled_none}
+use Rattle.checker.proofs.Ready.{Ready}
+use Rattle.reader.proofs.Lent.{Seeks}
 
 -- the types of parts are records
 drop_in : (ms : List Member) (k : ℕ) (m : Member) (l : List Member) → drop k ms ≡ m ∷ l → In m.type (types ms)
@@ -109,12 +112,12 @@ module _ (i : ℕ) (came : List ℕ) (c : ReadingCause) where
   unfit_of (inside (Choice ts)) clear n q = refl
   unfit_of (message t) clear n q = refl
 
-module _ {b index : List ℕ} {w : ℕ} {came : List ℕ} (Z : Sound b index w came) (e : Entry) (ee : e ≡ unpacked w)
-    (g : Bool) (eg : g ≡ (eqb e.kind 16 || eqb e.kind 17)) (i : ℕ) where
-  kind_members : g ≡ (eqb (unpacked w).kind 16 || eqb (unpacked w).kind 17)
-  kind_members = eg ∙ ap (λ (x : Entry). eqb x.kind 16 || eqb x.kind 17) ee
+module _ {b index : List ℕ} {w : ℕ} {came : List ℕ} (Z : Seeks b index w came) (e : Entry) (ee : e ≡ unpacked w)
+    (g : Bool) (eg : g ≡ (eqb (octet_of e.kind) 16 || eqb (octet_of e.kind) 17)) (i : ℕ) where
+  kind_members : g ≡ (eqb (octet_of (unpacked w).kind) 16 || eqb (octet_of (unpacked w).kind) 17)
+  kind_members = eg ∙ ap (λ (x : Entry). eqb (octet_of x.kind) 16 || eqb (octet_of x.kind) 17) ee
 
-  pub has_members_lem : g ≡ true → (eqb (unpacked w).kind 16 || eqb (unpacked w).kind 17) ≡ true
+  pub has_members_lem : g ≡ true → (eqb (octet_of (unpacked w).kind) 16 || eqb (octet_of (unpacked w).kind) 17) ≡ true
   has_members_lem y = sym kind_members ∙ y
 
   by_it : g ≡ by_member (manner (held b w))
@@ -137,11 +140,11 @@ module _ {b index : List ℕ} {w : ℕ} {came : List ℕ} (Z : Sound b index w c
 
 -- an entry whose parts are sought, and where they are
 pub record Parted (b index : List ℕ) (w : ℕ) (came : List ℕ) (e : Entry) (s : Span) : Type 0 where
-  pub sound : Sound b index w came
+  pub sound : Seeks b index w came
   pub entry : e ≡ unpacked w
-  pub span : s ≡ span_of b e.kind e.own
+  pub span : s ≡ span_of b (octet_of e.kind) e.own
 
-pub parted : {b index : List ℕ} {w : ℕ} {came : List ℕ} {e : Entry} {s : Span} → Sound b index w came → e ≡ unpacked w → s ≡ span_of b e.kind e.own
+pub parted : {b index : List ℕ} {w : ℕ} {came : List ℕ} {e : Entry} {s : Span} → Seeks b index w came → e ≡ unpacked w → s ≡ span_of b (octet_of e.kind) e.own
     → Parted b index w came e s
 parted z e s = record { sound = z; entry = e; span = s }
 
@@ -149,11 +152,11 @@ module _ {b index : List ℕ} {w : ℕ} {came : List ℕ} {e : Entry} {s : Span}
   abbrev H : Holder
   H = held b w
 
-  kind_is : e.kind ≡ (unpacked w).kind
-  kind_is = ap (λ (x : Entry). x.kind) D.entry
+  kind_is : (octet_of e.kind) ≡ (octet_of (unpacked w).kind)
+  kind_is = ap (λ (x : Entry). octet_of x.kind) D.entry
 
-  pub spanned : Spanned b H (unpacked w).kind s
-  spanned = its D.sound.ready w D.sound.known s (D.span ∙ ap (λ (x : Entry). span_of b x.kind x.own) D.entry)
+  pub spanned : Spanned b H (octet_of (unpacked w).kind) s
+  spanned = its D.sound.ready w D.sound.known s (D.span ∙ ap (λ (x : Entry). span_of b (octet_of x.kind) x.own) D.entry)
 
   pub few : s.count ≤ 16
   few = spanned.few
@@ -164,17 +167,17 @@ module _ {b index : List ℕ} {w : ℕ} {came : List ℕ} {e : Entry} {s : Span}
   pub within : (k : ℕ) → k < s.count → s.first + s.step * k < length b
   within = spanned.inside
 
-  is_turn : e.kind ≡ 16 → manner H ≡ in_turn
-  is_turn q = turn_is (manner H) (sym (entry_of D.sound.ready w D.sound.known).sequence ∙ eq-eqb (unpacked w).kind 16 (sym kind_is ∙ q))
+  is_turn : (octet_of e.kind) ≡ 16 → manner H ≡ in_turn
+  is_turn q = turn_is (manner H) (sym (entry_of D.sound.ready w D.sound.known).sequence ∙ eq-eqb (octet_of (unpacked w).kind) 16 (sym kind_is ∙ q))
 
-  no_turn : (e.kind ≡ 16 → ⊥) → manner H ≡ in_turn → ⊥
-  no_turn n = turn_not (manner H) (sym (entry_of D.sound.ready w D.sound.known).sequence ∙ ne_eqb (unpacked w).kind 16 (λ z. n (kind_is ∙ z)))
+  no_turn : (octet_of e.kind ≡ 16 → ⊥) → manner H ≡ in_turn → ⊥
+  no_turn n = turn_not (manner H) (sym (entry_of D.sound.ready w D.sound.known).sequence ∙ ne_eqb (octet_of (unpacked w).kind) 16 (λ z. n (kind_is ∙ z)))
 
   pub clear_turn : manner H ≡ in_turn → (p : ℕ) → get_or came p 0 ≡ 0
   clear_turn q = D.sound.clear (λ z. true≢false (ap turns_by (sym q ∙ z)))
 
   -- the i-th part from which on others are left
-  pub since_is : (i j : ℕ) → ((e.kind ≡ 16) × (i ≡ j)) ⊎ ((e.kind ≡ 16 → ⊥) × (i ≡ 0)) → i ≡ since (manner H) j
+  pub since_is : (i j : ℕ) → ((octet_of e.kind ≡ 16) × (i ≡ j)) ⊎ ((octet_of e.kind ≡ 16 → ⊥) × (i ≡ 0)) → i ≡ since (manner H) j
   unfolding since
   since_is i j (inl x) = rw (is_turn x.0) x.1
   since_is i j (inr x) = x.1 ∙ go (manner H) (no_turn x.0)
@@ -197,7 +200,7 @@ module _ {b index : List ℕ} {w : ℕ} {came : List ℕ} {e : Entry} {s : Span}
 
   -- where a part stands in the table
   module _ (k : ℕ) (l : k < s.count) where
-    abbrev AtK : PartAt b H (unpacked w).kind s k
+    abbrev AtK : PartAt b H (octet_of (unpacked w).kind) s k
     AtK = spanned.at k l
 
     pub type_low : (t : ℕ) → t ≡ get_or b (s.first + s.step * k) 0 → t < count_in b
@@ -206,17 +209,17 @@ module _ {b index : List ℕ} {w : ℕ} {came : List ℕ} {e : Entry} {s : Span}
         let z = et ∙ AtK.type in
         rw z q
 
-    optional_is : e.kind ≡ 16 → eqb (get_or b (s.first + s.step * k + 1) 0) 1 ≡ AtK.part.optional
+    optional_is : (octet_of e.kind) ≡ 16 → eqb (get_or b (s.first + s.step * k + 1) 0) 1 ≡ AtK.part.optional
     optional_is q = AtK.optional (rw (← kind_is, q) refl)
 
     -- a part that a SEQUENCE may pass over
     abbrev pub May : Type 0
     May = manner H ≡ in_turn → AtK.part.optional ≡ true
 
-    pub may_optional : e.kind ≡ 16 → (o : Bool) → o ≡ eqb (get_or b (s.first + s.step * k + 1) 0) 1 → o ≡ true → May
+    pub may_optional : (octet_of e.kind) ≡ 16 → (o : Bool) → o ≡ eqb (get_or b (s.first + s.step * k + 1) 0) 1 → o ≡ true → May
     may_optional q o eo y = λ z. sym (optional_is q) ∙ sym eo ∙ y
 
-    pub may_other : (e.kind ≡ 16 → ⊥) → May
+    pub may_other : (octet_of e.kind ≡ 16 → ⊥) → May
     may_other n = λ z. absurd (no_turn n z)
 
     -- the part itself begins with the code
@@ -252,7 +255,7 @@ module _ {b index : List ℕ} {w : ℕ} {came : List ℕ} {e : Entry} {s : Span}
               (λ z. let q = eqb-true (get_or came k 0) 0 z in awaits_skip H came k Itself AtK.part AtK.is q (o q) y)
               λ z. awaits_come H came k Itself AtK.part AtK.is (eqb-false (get_or came k 0) 0 z)
 
-      pub direct_stop : Other → e.kind ≡ 16 → (o : Bool) → o ≡ eqb (get_or b (s.first + s.step * k + 1) 0) 1 → o ≡ false → direct b H k came code ≡ s.count
+      pub direct_stop : Other → octet_of e.kind ≡ 16 → (o : Bool) → o ≡ eqb (get_or b (s.first + s.step * k + 1) 0) 1 → o ≡ false → direct b H k came code ≡ s.count
       direct_stop n q o eo y =
           let z = clear_turn (is_turn q) k in
           ap (place_of (tabled_count H)) (first_all k ∙ awaits_stop H came k Itself AtK.part AtK.is z (n z) (is_turn q) (sym (optional_is q) ∙ sym eo ∙ y))
@@ -284,19 +287,19 @@ module _ {b index : List ℕ} {w : ℕ} {came : List ℕ} {e : Entry} {s : Span}
       λ t. let q : ◌≡◌ {A = Option ℕ} (Some place) None = sym f ∙ e ∙ rw t refl in let z : ◌≡◌ {A = ℕ} 0 1 = cc in absurd (omega arith)
 
   -- all parts, a message's one with them
-  whole_is : eqb e.kind 51 ≡ true → H ≡ message e.own
+  whole_is : eqb (octet_of e.kind) 51 ≡ true → H ≡ message e.own
   unfolding holder_in if
   whole_is q = rw (← D.entry, q) refl
 
-  all_tabled : eqb e.kind 51 ≡ false → tabled_count H ≡ length (parts_of H)
+  all_tabled : eqb (octet_of e.kind) 51 ≡ false → tabled_count H ≡ length (parts_of H)
   unfolding holder_in if tabled_count
   all_tabled q = rw (← D.entry, q) refl
 
-  in_table : eqb e.kind 51 ≡ false → s.count ≡ length (parts_of H)
+  in_table : eqb (octet_of e.kind) 51 ≡ false → s.count ≡ length (parts_of H)
   in_table q = spanned.count ∙ all_tabled q
 
   abbrev pub Counted : ℕ → Type 0
-  Counted n = ((eqb e.kind 51 ≡ true) × (n ≡ 1)) ⊎ ((eqb e.kind 51 ≡ false) × (n ≡ s.count))
+  Counted n = ((eqb (octet_of e.kind) 51 ≡ true) × (n ≡ 1)) ⊎ ((eqb (octet_of e.kind) 51 ≡ false) × (n ≡ s.count))
 
   pub part_count : (n : ℕ) → Counted n → n ≡ length (parts_of H)
   unfolding parts_of
@@ -307,17 +310,17 @@ module _ {b index : List ℕ} {w : ℕ} {came : List ℕ} {e : Entry} {s : Span}
   few_parts n (inl x) = omega (arith, x.1)
   few_parts n (inr x) = omega (arith, x.1, few)
 
-  pub table_part : (n k : ℕ) → Counted n → k < n → eqb e.kind 51 ≡ false → k < s.count
+  pub table_part : (n k : ℕ) → Counted n → k < n → eqb (octet_of e.kind) 51 ≡ false → k < s.count
   table_part n k (inl x) l q = absurd (true≢false (sym x.0 ∙ q))
   table_part n k (inr x) l q = omega (arith, x.1)
 
-  pub turn_part : (n k : ℕ) → Counted n → k < n → e.kind ≡ 16 → k < s.count
-  turn_part n k c l q = table_part n k c l (ne_eqb e.kind 51 (λ z. omega (arith, z, q)))
+  pub turn_part : (n k : ℕ) → Counted n → k < n → octet_of e.kind ≡ 16 → k < s.count
+  turn_part n k c l q = table_part n k c l (ne_eqb (octet_of e.kind) 51 (λ z. omega (arith, z, q)))
 
   abbrev pub Typed : ℕ → ℕ → Type 0
-  Typed k t = ((eqb e.kind 51 ≡ true) × (t ≡ e.own)) ⊎ ((eqb e.kind 51 ≡ false) × (t ≡ get_or b (s.first + s.step * k) 0))
+  Typed k t = ((eqb (octet_of e.kind) 51 ≡ true) × (t ≡ e.own)) ⊎ ((eqb (octet_of e.kind) 51 ≡ false) × (t ≡ get_or b (s.first + s.step * k) 0))
 
-  pub typed_part : {n k t p : ℕ} → Counted n → k < n → eqb e.kind 51 ≡ false → t ≡ p
+  pub typed_part : {n k t p : ℕ} → Counted n → k < n → eqb (octet_of e.kind) 51 ≡ false → t ≡ p
       → (s.first + s.step * k < 18446744073709551616 → p ≡ get_or b (s.first + s.step * k) 0) → Typed k t
   typed_part {n} {k} c l q et ep = inr (q, et ∙ ep (omega (arith, near k (table_part n k c l q))))
 
@@ -325,7 +328,7 @@ module _ {b index : List ℕ} {w : ℕ} {came : List ℕ} {e : Entry} {s : Span}
     pub part : Member
     pub is : drop k (parts_of H) ≡ part ∷ drop (suc k) (parts_of H)
     pub type : t ≡ part.type
-    pub optional : e.kind ≡ 16 → eqb (get_or b (s.first + s.step * k + 1) 0) 1 ≡ part.optional
+    pub optional : (octet_of e.kind) ≡ 16 → eqb (get_or b (s.first + s.step * k + 1) 0) 1 ≡ part.optional
 
   pub candidate : (n k t : ℕ) → Counted n → k < n → Typed k t → Candidate k t
   unfolding parts_of
@@ -338,7 +341,7 @@ module _ {b index : List ℕ} {w : ℕ} {came : List ℕ} {e : Entry} {s : Span}
         part = record { type = e.own; optional = true };
         is = rw (o, q) refl;
         type = x.1;
-        optional = λ v. let u = eqb-true e.kind 51 x.0 in absurd (omega (arith, u, v));
+        optional = λ v. let u = eqb-true (octet_of e.kind) 51 x.0 in absurd (omega (arith, u, v));
       }
   candidate n k t c l (inr x) =
       let m = table_part n k c l x.0 in
@@ -364,7 +367,7 @@ module _ {b index : List ℕ} {w : ℕ} {came : List ℕ} {e : Entry} {s : Span}
             let y = ap (λ (u : ℕ). hit (search_in (table_in b) 129 u code)) (sym C.type) ∙ ap hit G.0 in
             (C.part, v ∙ awaits_hit H came k UnderIt C.part C.is z y, refl, rw C.type at G)
 
-        pub indirect_stop : get_or came k 0 ≡ 0 → r ≡ None → e.kind ≡ 16 → (o : Bool) → o ≡ eqb (get_or b (s.first + s.step * k + 1) 0) 1 → o ≡ false
+        pub indirect_stop : get_or came k 0 ≡ 0 → r ≡ None → octet_of e.kind ≡ 16 → (o : Bool) → o ≡ eqb (get_or b (s.first + s.step * k + 1) 0) 1 → o ≡ false
             → first UnderIt (awaits H k came) ≡ none
         indirect_stop z q v o eo y = awaits_stop H came k UnderIt C.part C.is z (under_none q) (is_turn v) (sym (C.optional v) ∙ sym eo ∙ y)
 
@@ -372,11 +375,11 @@ module _ {b index : List ℕ} {w : ℕ} {came : List ℕ} {e : Entry} {s : Span}
             → first UnderIt (awaits H k came) ≡ first UnderIt (awaits H (k + 1) came)
         skip z q y = awaits_skip H came k UnderIt C.part C.is z (under_none q) y
 
-        pub indirect_optional : get_or came k 0 ≡ 0 → r ≡ None → e.kind ≡ 16 → (o : Bool) → o ≡ eqb (get_or b (s.first + s.step * k + 1) 0) 1 → o ≡ true
+        pub indirect_optional : get_or came k 0 ≡ 0 → r ≡ None → octet_of e.kind ≡ 16 → (o : Bool) → o ≡ eqb (get_or b (s.first + s.step * k + 1) 0) 1 → o ≡ true
             → first UnderIt (awaits H k came) ≡ first UnderIt (awaits H (k + 1) came)
         indirect_optional z q v o eo y = skip z q (λ _. sym (C.optional v) ∙ sym eo ∙ y)
 
-        pub indirect_other : get_or came k 0 ≡ 0 → r ≡ None → (e.kind ≡ 16 → ⊥) → first UnderIt (awaits H k came) ≡ first UnderIt (awaits H (k + 1) came)
+        pub indirect_other : get_or came k 0 ≡ 0 → r ≡ None → (octet_of e.kind ≡ 16 → ⊥) → first UnderIt (awaits H k came) ≡ first UnderIt (awaits H (k + 1) came)
         indirect_other z q n = skip z q (λ v. absurd (no_turn n v))
 
     pub indirect_come : (n k : ℕ) → Counted n → k < n → (get_or came k 0 ≡ 0 → ⊥) → first UnderIt (awaits H k came) ≡ first UnderIt (awaits H (k + 1) came)

@@ -19,15 +19,18 @@ use Rattle.table.specs.Syntax.{Member, Simple, Boolean, Integer, BitString, Octe
 use Rattle.table.specs.Syntax.{SetOf, Choice, Record}
 use Rattle.table.specs.Octets.{kind}
 use Rattle.table.specs.Reading.{members_at, every_at, table_in, count_in}
+use Rattle.kinds.specs.Kinds.{octet_of}
+use Rattle.kinds.specs.declared.Kind.TheVariants.{Message}
 use Rattle.records.specs.Entries.{unpacked, span_of, Entered}
 use Rattle.records.specs.declared.entry.Entry.{Entry}
 use Rattle.records.specs.declared.entry.Span.{Span}
 use Rattle.records.proofs.Promises.{entered_kind, entered_members, entered_choice, entered_list}
 use Rattle.reader.specs.Items.{Holder, inside, message, Manner, in_turn, each_once, repeated, single, manner, parts_of, optionals, Placed}
 use Rattle.reader.specs.Items.{pending, up_to_mandatory, within, left, awaits, first}
-use Rattle.reader.specs.Records.{Ready, holder_in, Known, of_record, of_message}
+use Rattle.reader.specs.Records.{holder_in, Known, of_record, of_message}
 use Rattle.reader.specs.Sought.{held, tabled, tabled_count}
 use Rattle.reader.proofs.Items.{pending_free, pending_come}
+use Rattle.checker.proofs.Ready.{Ready}
 
 members_at_lem : (b : List ℕ) (p n i : ℕ) → i < n
     → drop i (members_at b p n) ≡ record { type = get_or b (p + 2 * i) 0; optional = eqb (get_or b (p + 2 * i + 1) 0) 1 } ∷ drop (suc i) (members_at b p n)
@@ -79,7 +82,7 @@ kind_known (Choice ts) z = omega arith
 
 module _ {b : List ℕ} {e : Entry} {r : Record} (x : Entered b e r) (short : length b ≤ 8192) where
   abbrev S : Span
-  S = span_of b e.kind e.own
+  S = span_of b (octet_of e.kind) e.own
 
   plain_span : (q : Simple) → r.body ≡ Plain q → (S.count ≡ 0)
   unfolding span_of kind if
@@ -93,7 +96,7 @@ module _ {b : List ℕ} {e : Entry} {r : Record} (x : Entered b e r) (short : le
   plain_span (Time Generalized) h = rw (entered_kind x ∙ ap kind h) refl
 
   members_spanned : (ms : List Member) (h : Holder) → (r.body ≡ Sequence ms) ⊎ (r.body ≡ Set ms) → parts_of h ≡ ms → tabled_count h ≡ length ms
-      → Spanned b h e.kind S
+      → Spanned b h (octet_of e.kind) S
   members_spanned ms h y p c =
       let w = entered_members x ms y in
       let o = e.own in
@@ -113,8 +116,8 @@ module _ {b : List ℕ} {e : Entry} {r : Record} (x : Entered b e r) (short : le
       })
 
   list_spanned : (t : ℕ) (h : Holder) → (r.body ≡ SequenceOf t) ⊎ (r.body ≡ SetOf t) → parts_of h ≡ optionals (t ∷ []) → tabled_count h ≡ 1
-      → (eqb e.kind 16 || eqb e.kind 17) ≡ false
-      → Spanned b h e.kind S
+      → (eqb (octet_of e.kind) 16 || eqb (octet_of e.kind) 17) ≡ false
+      → Spanned b h (octet_of e.kind) S
   list_spanned t h y p c m =
       let w = entered_list x t y in
       rw w.span
@@ -134,10 +137,10 @@ module _ {b : List ℕ} {e : Entry} {r : Record} (x : Entered b e r) (short : le
             });
       })
 
-  kind_of_lem : (y : Body) → r.body ≡ y → (k : ℕ) → kind y ≡ k → e.kind ≡ k
+  kind_of_lem : (y : Body) → r.body ≡ y → (k : ℕ) → kind y ≡ k → octet_of e.kind ≡ k
   kind_of_lem y h k q = entered_kind x ∙ ap kind h ∙ q
 
-  pub spanned_body : (y : Body) → r.body ≡ y → Spanned b (inside y) e.kind S
+  pub spanned_body : (y : Body) → r.body ≡ y → Spanned b (inside y) (octet_of e.kind) S
   unfolding parts_of tabled_count kind
   spanned_body (Plain q) h =
       let z = plain_span q h in
@@ -149,7 +152,7 @@ module _ {b : List ℕ} {e : Entry} {r : Record} (x : Entered b e r) (short : le
   spanned_body (Choice ts) h =
       let w = entered_choice x ts h in
       let o = e.own in
-      let m : (eqb e.kind 16 || eqb e.kind 17) ≡ false = rw (kind_of_lem (Choice ts) h 50 refl) refl in
+      let m : (eqb (octet_of e.kind) 16 || eqb (octet_of e.kind) 17) ≡ false = rw (kind_of_lem (Choice ts) h 50 refl) refl in
       rw w.span
       (record {
         count = w.count ∙ sym (length-map ts _);
@@ -170,8 +173,8 @@ module _ {b : List ℕ} {e : Entry} {r : Record} (x : Entered b e r) (short : le
   unfolding holder_in if
   held_body = rw (not_message r.body refl, x.body) refl
     where
-      not_message : (y : Body) → r.body ≡ y → eqb e.kind 51 ≡ false
-      not_message y h = ne_eqb e.kind 51 (λ z. kind_known y (sym (kind_of_lem y h (kind y) refl) ∙ z))
+      not_message : (y : Body) → r.body ≡ y → eqb (octet_of e.kind) 51 ≡ false
+      not_message y h = ne_eqb (octet_of e.kind) 51 (λ z. kind_known y (sym (kind_of_lem y h (kind y) refl) ∙ z))
 
 -- the kind of an entry says how its items come
 abbrev pub turns_by : Manner → Bool
@@ -230,9 +233,9 @@ member_kind (Choice ts) = refl
 
 -- an entry that is known
 pub record EntryOf (b : List ℕ) (e : Entry) : Type 0 where
-  pub spanned : Spanned b (holder_in b e) e.kind (span_of b e.kind e.own)
-  pub sequence : eqb e.kind 16 ≡ turns_by (manner (holder_in b e))
-  pub members : (eqb e.kind 16 || eqb e.kind 17) ≡ by_member (manner (holder_in b e))
+  pub spanned : Spanned b (holder_in b e) (octet_of e.kind) (span_of b (octet_of e.kind) e.own)
+  pub sequence : eqb (octet_of e.kind) 16 ≡ turns_by (manner (holder_in b e))
+  pub members : (eqb (octet_of e.kind) 16 || eqb (octet_of e.kind) 17) ≡ by_member (manner (holder_in b e))
 
 module _ {b index : List ℕ} (R : Ready b index) where
   entry_record : (t : ℕ) → t < count_in b → EntryOf b (unpacked (get_or index t 0))
@@ -245,7 +248,7 @@ module _ {b index : List ℕ} (R : Ready b index) where
         members = rw (held_body x l) (ap (λ (k : ℕ). eqb k 16 || eqb k 17) (entered_kind x) ∙ member_kind (table_in b t).body);
       }
 
-  entry_message : (t : ℕ) → EntryOf b (record { code = 0; own = t; kind = 51; explicit = 0; simple = false })
+  entry_message : (t : ℕ) → EntryOf b (record { code = 0; own = t; kind = Message; explicit = 0; simple = false })
   unfolding holder_in if span_of tabled_count manner
   entry_message t =
       record {
@@ -328,11 +331,11 @@ unfolding tabled_count tabled first
 tabled_none (inside y) came i f l = awaits_none (inside y) came i f l
 tabled_none (message t) came i f l = refl
 
-module _ {b index : List ℕ} (R : Ready b index) (w : ℕ) (known : Known b index w) (s : Span) (es : s ≡ span_of b (unpacked w).kind (unpacked w).own) where
+module _ {b index : List ℕ} (R : Ready b index) (w : ℕ) (known : Known b index w) (s : Span) (es : s ≡ span_of b (octet_of (unpacked w).kind) (unpacked w).own) where
   abbrev H : Holder
   H = held b w
 
-  pub its : Spanned b H (unpacked w).kind s
+  pub its : Spanned b H (octet_of (unpacked w).kind) s
   its = rw es (entry_of R w known).spanned
 
   pub span_few : s.count ≤ 16
@@ -344,7 +347,7 @@ module _ {b index : List ℕ} (R : Ready b index) (w : ℕ) (known : Known b ind
   -- the loop over all that are left
   module _ (came : List ℕ) (k : ℕ) (g : Placed → Bool) where
     module _ (l : k < s.count) where
-      abbrev pub its_part : PartAt b H (unpacked w).kind s k
+      abbrev pub its_part : PartAt b H (octet_of (unpacked w).kind) s k
       its_part = its.at k l
 
       pub any_free : get_or came k 0 ≡ 0 → g (k, its_part.part) ≡ true → any g (left H k came) ≡ true
@@ -359,7 +362,7 @@ module _ {b index : List ℕ} (R : Ready b index) (w : ℕ) (known : Known b ind
       any_come z = rw (left_come H came k its_part.part its_part.is z) refl
 
   -- whether one of them is mandatory, or there is one at all
-  module _ (members : (eqb (unpacked w).kind 16 || eqb (unpacked w).kind 17) ≡ true) (came : List ℕ) (k : ℕ) (flag : Bool) where
+  module _ (members : (eqb (octet_of (unpacked w).kind) 16 || eqb (octet_of (unpacked w).kind) 17) ≡ true) (came : List ℕ) (k : ℕ) (flag : Bool) where
     abbrev pub Owed : Placed → Bool
     Owed x = flag || not x.1.optional
 
@@ -380,8 +383,8 @@ module _ {b index : List ℕ} (R : Ready b index) (w : ℕ) (known : Known b ind
         pub lacks_skip : get_or came k 0 ≡ 0 → flag ≡ false → o ≡ true → any Owed (left H k came) ≡ any Owed (left H (k + 1) came)
         lacks_skip z f e = any_skip came k Owed l z (rw (← its_optional, e, f) refl)
 
-    not_message : eqb (unpacked w).kind 51 ≡ false
-    not_message = go (unpacked w).kind members
+    not_message : eqb (octet_of (unpacked w).kind) 51 ≡ false
+    not_message = go (octet_of (unpacked w).kind) members
       where
         go : (n : ℕ) → (eqb n 16 || eqb n 17) ≡ true → eqb n 51 ≡ false
         go n e = or_by (eqb n 16) (eqb n 17) e (λ q. rw (eqb-true n 16 q) refl) λ q. rw (eqb-true n 17 q) refl

@@ -15,6 +15,7 @@ use Rattle.dates.specs.declared.TimeKind.TheVariants.{Utc, Generalized}
 use Rattle.table.specs.Syntax.{Tag, Body, Plain, Sequence, Set, SequenceOf, SetOf, Choice, Record, is_choice}
 use Rattle.table.specs.Syntax.{Boolean, Integer, BitString, OctetString, Null, Enumerated, Time}
 use Rattle.table.specs.Octets.{kind}
+use Rattle.kinds.specs.Kinds.{octet_of}
 use Rattle.records.specs.Entries.{unpacked, all_but_last, explicit_count, Entered}
 use Rattle.records.specs.declared.entry.Entry.{Entry}
 use Rattle.records.proofs.Promises.{entered_kind}
@@ -117,7 +118,7 @@ string_kind (SetOf t) = refl
 string_kind (Choice ts) = refl
 
 module _ {b : List ℕ} {e : Entry} {r : Record} (x : Entered b e r) (j : ℕ) where
-  pub either_entry : (g : Bool) → g ≡ (eqb e.kind 3 || eqb e.kind 4) → e.explicit ≡ j → either_at r j ≡ g
+  pub either_entry : (g : Bool) → g ≡ (eqb (octet_of e.kind) 3 || eqb (octet_of e.kind) 4) → e.explicit ≡ j → either_at r j ≡ g
   unfolding either_at
   either_entry g eg q =
       let s : g ≡ own_either r.body = eg ∙ ap (λ (k : ℕ). eqb k 3 || eqb k 4) (entered_kind x) ∙ string_kind r.body in
@@ -145,9 +146,9 @@ module _ (w code f : ℕ) (ef : f ≡ (unpacked w).code) where
           rw (either_explicit x 0 (λ z. k (ap (λ (i : Entry). i.explicit) ee ∙ z)))
           (sym (coded_one (first_of r) code ∙ ne_eqb (first_of r) code (other_first x)))
 
-      pub begins_string : f + 32 ≡ code → e.explicit ≡ 0 → (g : Bool) → g ≡ (eqb e.kind 3 || eqb e.kind 4) → Begins w code g
+      pub begins_string : f + 32 ≡ code → e.explicit ≡ 0 → (g : Bool) → g ≡ (eqb (octet_of e.kind) 3 || eqb (octet_of e.kind) 4) → Begins w code g
       unfolding coded
       begins_string q z g eg b r x =
-          let h = either_entry x 0 g (eg ∙ ap (λ (i : Entry). eqb i.kind 3 || eqb i.kind 4) ee) (ap (λ (i : Entry). i.explicit) (sym ee) ∙ z) in
+          let h = either_entry x 0 g (eg ∙ ap (λ (i : Entry). eqb (octet_of i.kind) 3 || eqb (octet_of i.kind) 4) ee) (ap (λ (i : Entry). i.explicit) (sym ee) ∙ z) in
           let p : first_of r + 32 ≡ code = ap (λ (i : ℕ). i + 32) (sym (ef ∙ x.code)) ∙ q in
           rw (h, ne_eqb (first_of r) code (other_first x), eq-eqb (first_of r + 32) code p) (sym (and_true g))

@@ -26,16 +26,18 @@ use Rattle.ber.proofs.Ends.{end_more, end_over, end_broken}
 use Rattle.ber.proofs.Told.{identifier_read, identifier_refused}
 use Rattle.table.specs.Syntax.{Tag, Body, Plain, Sequence, Set, SequenceOf, SetOf, Choice, Record, is_choice, constructed}
 use Rattle.table.specs.Reading.{table_in, count_in}
+use Rattle.kinds.specs.Kinds.{octet_of}
 use Rattle.records.specs.Entries.{unpacked, tag_count, tag_place, all_but_last, Entered, first_code, outermost_code, explicit_count}
 use Rattle.records.specs.declared.entry.Entry.{Entry}
 use Rattle.records.proofs.Promises.{entered_tags, entered_tag, entered_bit}
 use Rattle.coding.specs.Tags.{identifier_of, last, before, explicit_tags, own_tag, explicit}
 use Rattle.reader.specs.Codes.{own_either, either_at, coded}
-use Rattle.reader.specs.Records.{Ready, record_in, IsRecord}
+use Rattle.reader.specs.Records.{record_in, IsRecord}
 use Rattle.reader.specs.Wraps.{identifiers, sent_as, AwaitsTag, behind_last, is_tag, no_tag, EntersTag, goes_on, is_over}
 use Rattle.reader.proofs.Starts.{coded_one, coded_is, coded_parts, coded_other, either_entry, either_explicit}
 use Rattle.reader.proofs.Begun.{AllFine, Fit, fit, eqb_turn, code_below, parts_tag, code_parts}
 use Rattle.reader.proofs.Spans.{or_true}
+use Rattle.checker.proofs.Ready.{Ready}
 
 -- a record by its entry
 pub record_is : {b : List ℕ} {e : Entry} {r : Record} → Entered b e r → record_in b e ≡ r
@@ -324,11 +326,11 @@ module _ {b index : List ℕ} (R : Ready b index) {w : ℕ} (I : IsRecord b inde
           awaits_explicit z =
               exactly (rw its_record (either_explicit its_entry j (λ q. z (ap (λ (x : Entry). x.explicit) ee ∙ q))))
 
-          module _ (z : e.explicit ≡ j) (g : Bool) (eg : g ≡ (eqb e.kind 3 || eqb e.kind 4)) where
+          module _ (z : e.explicit ≡ j) (g : Bool) (eg : g ≡ (eqb (octet_of e.kind) 3 || eqb (octet_of e.kind) 4)) where
             its_either : either_at r j ≡ g
             its_either =
                 rw its_record
-                (either_entry its_entry j g (eg ∙ ap (λ (x : Entry). eqb x.kind 3 || eqb x.kind 4) ee) (ap (λ (x : Entry). x.explicit) (sym ee) ∙ z))
+                (either_entry its_entry j g (eg ∙ ap (λ (x : Entry). eqb (octet_of x.kind) 3 || eqb (octet_of x.kind) 4) ee) (ap (λ (x : Entry). x.explicit) (sym ee) ∙ z))
 
             pub awaits_string : code ≡ k + 32 → g ≡ true → AwaitsTag r j m (Ok end)
             awaits_string q y = is_awaited (coded_parts (either_at r j) k code (its_either ∙ y) (sym q))

@@ -26,6 +26,7 @@ use Rattle.ber.proofs.Told.{length_definite, length_indefinite}
 use Rattle.table.specs.Syntax.{Simple, Body, Plain}
 use Rattle.table.specs.Syntax.{Record, is_choice, constructed}
 use Rattle.table.specs.Reading.{table_in}
+use Rattle.kinds.specs.Kinds.{octet_of}
 use Rattle.records.specs.Entries.{unpacked}
 use Rattle.records.specs.declared.entry.Entry.{Entry}
 use Rattle.coding.specs.Tags.{own_tag, explicit}
@@ -36,7 +37,7 @@ use Rattle.reader.specs.Answers.{unread}
 use Rattle.reader.specs.Codes.{own_either, either}
 use Rattle.reader.specs.Items.{Holder, inside, manner, is_single}
 use Rattle.reader.specs.Items.{read_held}
-use Rattle.reader.specs.Records.{Ready, IsRecord, Known, of_record, read_record}
+use Rattle.reader.specs.Records.{IsRecord, Known, of_record, read_record}
 use Rattle.reader.specs.Leaves.{is_in_segments, read_leaf}
 use Rattle.reader.specs.Sought.{held}
 use Rattle.reader.specs.Wraps.{closing, Around, Headed, read_bare, Opens}
@@ -48,6 +49,7 @@ use Rattle.reader.proofs.Tagging.{own_at, own_low, own_first, sent_at, its_fit}
 use Rattle.reader.proofs.OwnForm.{Form, form_of, form_lead, form_own, form_string, lead_header}
 use Rattle.reader.proofs.LeafReading.{leaf_end, size_of, form_read, form_refused}
 use Rattle.reader.proofs.Tails.{Sane, leaves, stops, tail_at, Closes, held_sane}
+use Rattle.checker.proofs.Ready.{Ready}
 
 -- Under the explicit tags of r, the item of r stands from `at` on, in octets that end at `end`; its identifier, if it has one, ends at `from`.
 -- The value of r is what closing the tags makes of what is read there.
@@ -128,7 +130,6 @@ pub record Item (b index : List ℕ) (w : ℕ) (m : List ℕ) (first level : ℕ
   pub entry : Entry
   pub entered : entry ≡ unpacked w
   pub notes : List ℕ
-  pub four : length notes ≡ 4
   pub at : ℕ
   pub from : ℕ
   pub end : ℕ
@@ -179,13 +180,13 @@ module _ {b index : List ℕ} {w : ℕ} {m : List ℕ} {first level : ℕ} (X : 
   pub item_unsized : is_choice Rec.body ≡ false → (c : ReadingCause) (l : ℕ) → read_length (length Rest) (drop X.from Part) ≡ refused c l → Bare ≡ refused c l
   item_unsized n c l e = form_refused (table_in b) _ Rec Rest c l n (X.under.headed n).identifier _ (X.under.headed n).is (own_form n).1 (own_header n ∙ e)
 
-  pub no_choice : (X.entry.kind ≡ 50 → ⊥) → is_choice Rec.body ≡ false
-  no_choice n = sym (its_choice X.ready X.known X.entry X.entered) ∙ ne_eqb X.entry.kind 50 n
+  pub no_choice : (octet_of X.entry.kind ≡ 50 → ⊥) → is_choice Rec.body ≡ false
+  no_choice n = sym (its_choice X.ready X.known X.entry X.entered) ∙ ne_eqb (octet_of X.entry.kind) 50 n
 
-  is_chosen : X.entry.kind ≡ 50 → is_choice Rec.body ≡ true
-  is_chosen y = sym (its_choice X.ready X.known X.entry X.entered) ∙ eq-eqb X.entry.kind 50 y
+  is_chosen : (octet_of X.entry.kind) ≡ 50 → is_choice Rec.body ≡ true
+  is_chosen y = sym (its_choice X.ready X.known X.entry X.entered) ∙ eq-eqb (octet_of X.entry.kind) 50 y
 
-  pub contents_bare : X.entry.kind ≡ 50 → Within Rec Part X.at X.end X.at X.end false
+  pub contents_bare : (octet_of X.entry.kind) ≡ 50 → Within Rec Part X.at X.end X.at X.end false
   contents_bare y =
       record {
         ordered = omega (arith, X.under.some);
@@ -200,7 +201,7 @@ module _ {b index : List ℕ} {w : ℕ} {m : List ℕ} {first level : ℕ} (X : 
         header = λ n. absurd (true≢false (sym (is_chosen y) ∙ n));
       }
 
-  module _ (k : X.entry.kind ≡ 50 → ⊥) (z : Result Extent ReadingCause) (az : z ≡ told_length (length Part) (read_length (length Rest) (drop X.from Part))) where
+  module _ (k : (octet_of X.entry.kind) ≡ 50 → ⊥) (z : Result Extent ReadingCause) (az : z ≡ told_length (length Part) (read_length (length Rest) (drop X.from Part))) where
     pub contents_sized : (x : Extent) → z ≡ Ok x → Within Rec Part X.at X.end x.start x.end x.indefinite
     contents_sized x q =
         let n = no_choice k in

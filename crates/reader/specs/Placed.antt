@@ -12,7 +12,7 @@ use Rattle.coding.specs.Value.{Value, octets}
 use Rattle.coding.specs.Reading.{read_value}
 use Rattle.reader.specs.Codes.{first_of, untagged, either}
 use Rattle.reader.specs.Items.{Holder, read_held}
-use Rattle.reader.specs.Records.{Ready, Known, record_in, read_record}
+use Rattle.reader.specs.Records.{Known, record_in, read_record}
 use Rattle.reader.specs.Sought.{held}
 use Rattle.reader.specs.Wraps.{Headed}
 use Rattle.reader.specs.declared.node.Placed.{Placed}
@@ -43,24 +43,20 @@ abbrev pub value_in : List ℕ → ℕ → List ℕ → Answer ReadingCause Valu
 value_in b w s = read_record (table_in b) 24 (record_in b (unpacked w)) s
 
 -- what the placing of the items in w requires
-pub record ToPlace (b index : List ℕ) (w : ℕ) (m : List ℕ) (indefinite : Bool) (buf : List ℕ) (to : ℕ) (way : List ℕ) : Type 0 where
-  pub ready : Ready b index
+pub record ToPlace (b index : List ℕ) (w : ℕ) (m : List ℕ) (indefinite : Bool) (buf : List ℕ) (to : ℕ) : Type 0 where
   pub known : Known b index w
   pub holds : (unpacked w).simple ≡ false
   pub short : length m ≤ 8192
-  pub ways : length way ≡ 128
   pub fits : Fits (held_in b (held b w) indefinite m) to buf
 
 -- what the placing of a value of w requires: w is the entry of a record that begins with an identifier of its own, which ends at `from`
-pub record ToPlaceValue (b index : List ℕ) (w : ℕ) (m : List ℕ) (at from : ℕ) (buf : List ℕ) (to : ℕ) (way : List ℕ) : Type 0 where
-  pub ready : Ready b index
+pub record ToPlaceValue (b index : List ℕ) (w : ℕ) (m : List ℕ) (at from : ℕ) (buf : List ℕ) (to : ℕ) : Type 0 where
   pub type : ℕ
   pub low : type < count_in b
   pub entry : w ≡ get_or index type 0
   pub tagged : first_of (table_in b type) ≡ untagged → ⊥
   pub short : length m ≤ 8192
   pub headed : Headed m at from (either (record_in b (unpacked w))) (unpacked w).code
-  pub ways : length way ≡ 128
   pub fits : Fits (value_in b w (drop at m)) to buf
 
 -- the first member from the j-th on that came; n if none did

@@ -1,12 +1,13 @@
--- What the reader relies on of a table and its index, and what an entry stands for (FORMATS, "Tables").
+-- What an entry of a table's index stands for (FORMATS, "Tables").
 -- Assumes nothing.
 use Rattle.std.specs.Prelude.{Bool, true, false, List, ◌≡◌, ℕ, ◌<◌, eqb, get_or, Option, Some, None}
 use Rattle.x690.specs.declared.ReadingCause.{ReadingCause}
 use Rattle.octets.specs.Answer.{Answer, if}
 use Rattle.table.specs.Syntax.{Record, Table}
 use Rattle.table.specs.Reading.{tags_at, body_at, table_in, count_in}
-use Rattle.table.specs.Passes.{Passes}
-use Rattle.records.specs.Entries.{unpacked, tag_count, tag_place, Entered, Filled}
+use Rattle.kinds.specs.Kinds.{octet_of}
+use Rattle.kinds.specs.declared.Kind.TheVariants.{Message}
+use Rattle.records.specs.Entries.{unpacked, tag_count, tag_place, Entered}
 use Rattle.records.specs.declared.entry.Entry.{Entry}
 use Rattle.coding.specs.Value.{Value}
 use Rattle.coding.specs.Tags.{own_tag, explicit}
@@ -16,23 +17,18 @@ use Rattle.reader.specs.Items.{Holder, inside, message}
 use Rattle.reader.specs.Ways.{Leads}
 use Rattle.reader.specs.declared.search.Under.{Under}
 
--- a table that passed, and its index
-pub record Ready (b index : List ℕ) : Type 0 where
-  pub passes : Passes b (table_in b) (count_in b)
-  pub filled : Filled b index (count_in b)
-
 -- the record of an entry
 unfoldable pub record_in : List ℕ → Entry → Record
-record_in b e = record { tags = tags_at b (tag_place e 0) (tag_count e); body = body_at b e.kind e.own }
+record_in b e = record { tags = tags_at b (tag_place e 0) (tag_count e); body = body_at b (octet_of e.kind) e.own }
 
 -- what its items stand in; 51 is the kind of a message
 unfoldable pub holder_in : List ℕ → Entry → Holder
-holder_in b e = if (eqb e.kind 51) (message e.own) λ _. inside (body_at b e.kind e.own)
+holder_in b e = if (eqb (octet_of e.kind) 51) (message e.own) λ _. inside (body_at b (octet_of e.kind) e.own)
 
 -- an entry of the index, or that of a message
 pub data Known (b index : List ℕ) (w : ℕ) : Type 0 where
   of_record : (t : ℕ) → t < count_in b → w ≡ get_or index t 0 → Known b index w
-  of_message : (t : ℕ) → t < count_in b → unpacked w ≡ record { code = 0; own = t; kind = 51; explicit = 0; simple = false } → Known b index w
+  of_message : (t : ℕ) → t < count_in b → unpacked w ≡ record { code = 0; own = t; kind = Message; explicit = 0; simple = false } → Known b index w
 
 -- an entry of the index
 abbrev pub IsRecord : List ℕ → List ℕ → ℕ → Type 0

@@ -13,7 +13,7 @@ use Rattle.records.specs.Entries.{unpacked}
 use Rattle.coding.specs.Reading.{not_awaited}
 use Rattle.reader.specs.Codes.{starts_with, search_in, hit, under}
 use Rattle.reader.specs.Items.{Holder, inside, message, each_once, manner, parts_of, Placed, awaits, remains, is_single, first, next}
-use Rattle.reader.specs.Records.{Ready, Known, holder_in, Finds}
+use Rattle.reader.specs.Records.{Known, holder_in, Finds}
 use Rattle.reader.specs.declared.search.Choice.{Choice}
 
 -- what the entry w stands for, if it is one of a record that is not simple, or of a message
@@ -22,9 +22,7 @@ held b w = holder_in b (unpacked w)
 
 -- what all who look among the parts of w rely on; but for a SET nothing is noted
 pub record Sound (b index : List ℕ) (w : ℕ) (came : List ℕ) : Type 0 where
-  pub ready : Ready b index
   pub known : Known b index w
-  pub noted : length came ≡ 16
   pub clear : (manner (held b w) ≡ each_once → ⊥) → (p : ℕ) → get_or came p 0 ≡ 0
 
 -- the place of a part, and n if there is none

@@ -12,11 +12,10 @@ pub struct Judged {
 // Stands for every size above that of the longest value.
 const OVER: usize = 16385;
 
-// The sum of two sizes.
+// The sum of two sizes; 16,385 if it is over 16,384.
 pub fn grow(a: usize, b: usize) -> usize
     requires { (a < 65536) × (b < 65536) }
     ensures { result ≡ cap (a + b) }
 {
-    let c = a + b;
-    if OVER < c { OVER } else { c }
+    OVER.min(a + b)
 }

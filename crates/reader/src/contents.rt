@@ -2,6 +2,7 @@
 ghost use Rattle.std.specs.Prelude.{◌≡◌, ◌<◌, ◌≤◌, ◌+◌, ◌-◌, ◌*◌, length, get_or, drop, true, false, not, [], ◌∷◌, ◌++◌, eqb, pos, ◌⊎◌};
 ghost use Rattle.table.specs.Syntax.{Record};
 ghost use Rattle.table.specs.Reading.{body_at};
+ghost use Rattle.kinds.specs.Kinds.{octet_of};
 ghost use Rattle.records.specs.Entries.{Entered};
 ghost use Rattle.reader.specs.Weights.{size_by};
 ghost use Rattle.std.proofs.lemmas.List.Edits.{sets};
@@ -20,10 +21,7 @@ use crate::node::{Placed, begin_node, put_number};
 use clock::own;
 use dates::TimeKind;
 use digits::time;
-use kinds::{
-    BIT_STRING, BOOLEAN, ENUMERATED, GENERALIZED_TIME, INTEGER, NULL, OCTET_STRING, UTC_TIME,
-    time_kind,
-};
+use kinds::Kind;
 use records::entry::{Entry, lists};
 use simple::{bit_string, integer};
 use x690::{ReadingCause, Unread};
@@ -32,17 +30,19 @@ use x690::{ReadingCause, Unread};
 // come in segments.
 pub fn contents_size(table: &[u8], e: Entry, lead: u8, c: &[u8]) -> Option<usize>
     requires { (r : Record) × Entered table.now e r × (length c.now ≤ 8192) }
-    ensures { let n = size_by (body_at table.now e.kind e.own) lead c.now in (result ≡ unless_zero n) × (n < 16386) }
+    ensures { let n = size_by (body_at table.now (octet_of e.kind) e.own) lead c.now in (result ≡ unless_zero n) × (n < 16386) }
 {
     let n = c.len();
     match e.kind {
-        BOOLEAN => (n == 1).then_some(4),
-        INTEGER => integer::is_integer(c).then_some(11),
-        BIT_STRING => (!in_segments(lead) && bit_string::are_bits(c)).then_some(n + 4),
-        OCTET_STRING => (!in_segments(lead)).then_some(n + 5),
-        NULL => (n == 0).then_some(3),
-        ENUMERATED => (integer::is_integer(c) && lists(table, e, integer::of(c))).then_some(5),
-        UTC_TIME | GENERALIZED_TIME => time::is_time(time_kind(e.kind), c).then_some(10),
+        Kind::Boolean => (n == 1).then_some(4),
+        Kind::Integer => integer::is_integer(c).then_some(11),
+        Kind::BitString => (!in_segments(lead) && bit_string::are_bits(c)).then_some(n + 4),
+        Kind::OctetString => (!in_segments(lead)).then_some(n + 5),
+        Kind::Null => (n == 0).then_some(3),
+        Kind::Enumerated => (integer::is_integer(c) && lists(table, e, integer::of(c))).then_some(
+            5,
+        ),
+        Kind::UtcTime | Kind::GeneralizedTime => time::is_time(e.kind.time(), c).then_some(10),
         _ => None,
     }
 }
@@ -55,11 +55,11 @@ pub fn in_segments(lead: u8) -> bool
 }
 
 // How many octets the value of a string has whose segments join to contents of n octets.
-fn string_size(kind: u8, n: usize) -> usize
+fn string_size(kind: Kind, n: usize) -> usize
     requires { n ≤ 8193 }
-    ensures { (kind ≡ 3 → result ≡ n + 4) × (kind ≡ 4 → result ≡ n + 5) }
+    ensures { (octet_of kind ≡ 3 → result ≡ n + 4) × (octet_of kind ≡ 4 → result ≡ n + 5) }
 {
-    if kind == BIT_STRING {
+    if kind == Kind::BitString {
         return n + 4;
     }
     n + 5
@@ -67,7 +67,7 @@ fn string_size(kind: u8, n: usize) -> usize
 
 // Judges contents c of a simple record that have no size by themselves, in an item that begins with the octet `lead`: those of a string in
 // segments, where they end and how many octets the value has; all others are refused. 00 00 closes them if `indefinite`; `left` octets are left
-// where the item begins, and `behind` octets behind c.
+// where the item begins, and `behind` octets after c.
 pub fn judge_segments(
     table: &[u8],
     e: Entry,
@@ -78,13 +78,13 @@ pub fn judge_segments(
     behind: usize,
 ) -> Result<Judged, Unread>
     requires { (r : Record) × Entered table.now e r
-        × (is_in_segments lead ≡ true → (e.kind ≡ 3) ⊎ (e.kind ≡ 4))
+        × (is_in_segments lead ≡ true → (octet_of e.kind ≡ 3) ⊎ (octet_of e.kind ≡ 4))
         × (length c.now ≤ 8192)
         × (behind ≤ 8192)
         × (e.simple ≡ true)
-        × (indefinite ≡ false → size_by (body_at table.now e.kind e.own) lead c.now ≡ 0) }
+        × (indefinite ≡ false → size_by (body_at table.now (octet_of e.kind) e.own) lead c.now ≡ 0) }
     ensures { let d = c.now in
-        result ≡ told d leaf_size (read_leaf_in (body_at table.now e.kind e.own) (is_in_segments lead) indefinite left behind d) }
+        result ≡ told d leaf_size (read_leaf_in (body_at table.now (octet_of e.kind) e.own) (is_in_segments lead) indefinite left behind d) }
 {
     if !in_segments(lead) {
         let cause = if indefinite {
@@ -94,7 +94,7 @@ pub fn judge_segments(
         };
         return Err(Unread { cause, left });
     }
-    match segments::read(c, indefinite, e.kind == BIT_STRING) {
+    match segments::read(c, indefinite, e.kind == Kind::BitString) {
         Ok(x) => Ok(Judged {
             end: x.end,
             size: string_size(e.kind, x.size),
@@ -167,32 +167,32 @@ fn put_time(kind: TimeKind, c: &[u8], buf: &mut [u8], to: usize) -> usize
 }
 
 // Places the value of contents of a simple kind; where it ends.
-pub fn place_contents(kind: u8, c: &[u8], buf: &mut [u8], to: usize) -> usize
-    requires { Lawful kind c.now × (length c.now ≤ 8192) × (to + length (leaf_octets (leaf_of kind c.now)) ≤ length buf.old) }
-    ensures { let w = leaf_octets (leaf_of kind c.now) in (result ≡ to + length w) × (buf.new ≡ sets buf.old to w) }
+pub fn place_contents(kind: Kind, c: &[u8], buf: &mut [u8], to: usize) -> usize
+    requires { Lawful (octet_of kind) c.now × (length c.now ≤ 8192) × (to + length (leaf_octets (leaf_of (octet_of kind) c.now)) ≤ length buf.old) }
+    ensures { let w = leaf_octets (leaf_of (octet_of kind) c.now) in (result ≡ to + length w) × (buf.new ≡ sets buf.old to w) }
 {
     begin_node(buf, to, kind);
     let next = to + 3;
     match kind {
-        BOOLEAN => put_flag(c, buf, next),
-        INTEGER => put_integer(c, buf, next),
-        BIT_STRING => put_bits(c, buf, next),
-        OCTET_STRING => put_string(c, buf, next),
-        NULL => next,
-        ENUMERATED => put_enumerated(c, buf, next),
-        _ => put_time(time_kind(kind), c, buf, next),
+        Kind::Boolean => put_flag(c, buf, next),
+        Kind::Integer => put_integer(c, buf, next),
+        Kind::BitString => put_bits(c, buf, next),
+        Kind::OctetString => put_string(c, buf, next),
+        Kind::Null => next,
+        Kind::Enumerated => put_enumerated(c, buf, next),
+        _ => put_time(kind.time(), c, buf, next),
     }
 }
 
 // Places the value of a string whose segments stand in c; where they end, and the value.
-pub fn place_segments(kind: u8, c: &[u8], buf: &mut [u8], to: usize) -> Placed
-    requires { ToPlaceLeaf kind c.now true (length buf.old) to }
-    ensures { (p : ToPlaceLeaf kind c.now true (length buf.old) to)
-        → LeafPlaced kind p.contents p.rest c.now buf.old to buf.new result }
+pub fn place_segments(kind: Kind, c: &[u8], buf: &mut [u8], to: usize) -> Placed
+    requires { ToPlaceLeaf (octet_of kind) c.now true (length buf.old) to }
+    ensures { (p : ToPlaceLeaf (octet_of kind) c.now true (length buf.old) to)
+        → LeafPlaced (octet_of kind) p.contents p.rest c.now buf.old to buf.new result }
 {
     begin_node(buf, to, kind);
     let start = to + 5;
-    let bits = kind == BIT_STRING;
+    let bits = kind == Kind::BitString;
     let x = segments::join(c, bits, buf, start);
     let n = x.next - start;
     if bits {

@@ -1,16 +1,17 @@
 // Judges a message: finds every refusal and how long the value is; nothing is written (X.690, 8.9 to 8.14; FORMATS, "Messages").
 // m is the contents in which items stand, from their first octet on, or the message; places in it count from there. A refusal says how many
 // octets are left from its place to the end of m.
-ghost use Rattle.std.specs.Prelude.{◌≡◌, true, false, List, ℕ, ◌<◌, ◌≤◌, ◌⊎◌, length, take, drop, Ok};
+ghost use Rattle.std.specs.Prelude.{◌≡◌, true, false, ℕ, ◌<◌, ◌≤◌, ◌⊎◌, length, take, drop, Ok};
 ghost use Rattle.x690.specs.Reading.{read_length};
 ghost use Rattle.ber.specs.Told.{end_of, told_length, mode};
 ghost use Rattle.table.specs.Syntax.{Record};
 ghost use Rattle.table.specs.Reading.{body_at, table_in, count_in};
+ghost use Rattle.kinds.specs.Kinds.{octet_of};
 ghost use Rattle.records.specs.Entries.{unpacked, Entered};
 ghost use Rattle.coding.specs.Reading.{read_value, read_message};
 ghost use Rattle.reader.specs.Answers.{told, size};
 ghost use Rattle.reader.specs.Items.{manner, since, read_held};
-ghost use Rattle.reader.specs.Records.{Ready, record_in, read_record};
+ghost use Rattle.reader.specs.Records.{record_in, read_record};
 ghost use Rattle.reader.specs.Sought.{held, Sound};
 ghost use Rattle.reader.specs.Standing.{standing};
 ghost use Rattle.reader.specs.Judging.{ToJudge, ToJudgeValue};
@@ -24,15 +25,16 @@ use crate::search::{in_turn, search};
 use crate::tags::{Inner, close, open};
 use ber::length::Extent;
 use ber::{ending, length};
+use checker::passed::Passed;
 use coding::LEVELS;
-use kinds::{CHOICE, SEQUENCE, SET, has_members, holds_one};
+use kinds::Kind;
 use records::entry::{Entry, parts, unpack, whole};
 use x690::{ReadingCause, Unread};
 
 // Where other octets begin, if the contents m of w are over at a place; none if an item follows. 00 00 closes them if `indefinite`. Awaited
 // are members of a SEQUENCE from the j-th on, and members of a SET that have not come.
 fn next(
-    table: &[u8],
+    table: &Passed,
     w: u64,
     m: &[u8],
     at: usize,
@@ -40,18 +42,18 @@ fn next(
     j: usize,
     came: &[u16; 16],
 ) -> Result<Option<usize>, ReadingCause>
-    requires { (index : List ℕ) × Sound table.now index w came.now × ((unpacked w).simple ≡ false) }
-    ensures { let h = held table.now w in result ≡ standing h (since (manner h) j) came.now (end_of indefinite (length m.now) (drop at m.now)) }
+    requires { Sound table.now.octets.now table.now.index.now w came.now × ((unpacked w).simple ≡ false) }
+    ensures { let h = held table.now.octets.now w in result ≡ standing h (since (manner h) j) came.now (end_of indefinite (length m.now) (drop at m.now)) }
 {
     let e = unpack(w);
-    if holds_one(e.kind) {
+    if e.kind.holds_one() {
         return Ok(None);
     }
-    let i = if e.kind == SEQUENCE { j } else { 0 };
+    let i = if e.kind == Kind::Sequence { j } else { 0 };
     let Some(end) = ending::read(m, at, indefinite)? else {
         return Ok(None);
     };
-    if has_members(e.kind) {
+    if e.kind.has_members() {
         if lacks(table, w, i, came, false) {
             return Err(ReadingCause::NotAwaited);
         }
@@ -59,13 +61,13 @@ fn next(
     Ok(Some(end))
 }
 
-// The contents of the item at x of m, whose record has a kind. A CHOICE has no length of its own.
-fn extent(kind: u8, m: &[u8], x: Inner) -> Result<Extent, ReadingCause>
+// The contents of an item of m, of a record of this kind; x says where the item stands. A CHOICE has no length of its own.
+fn extent(kind: Kind, m: &[u8], x: Inner) -> Result<Extent, ReadingCause>
     requires { x.end ≤ length m.now }
-    ensures { (kind ≡ 50 → result ≡ Ok (record { start = x.at; end = x.end; indefinite = false }))
-        × ((kind ≡ 50 → ⊥) → (l : ℕ) → let p = take x.end m.now in result ≡ told_length (length p) (read_length l (drop x.from p))) }
+    ensures { (octet_of kind ≡ 50 → result ≡ Ok (record { start = x.at; end = x.end; indefinite = false }))
+        × ((octet_of kind ≡ 50 → ⊥) → (l : ℕ) → let p = take x.end m.now in result ≡ told_length (length p) (read_length l (drop x.from p))) }
 {
-    if kind == CHOICE {
+    if kind == Kind::Choice {
         return Ok(Extent {
             start: x.at,
             end: x.end,
@@ -87,12 +89,12 @@ fn judge_contents(
     behind: usize,
 ) -> Result<Judged, Unread>
     requires { (r : Record) × Entered table.now e r
-        × (is_in_segments lead ≡ true → (e.kind ≡ 3) ⊎ (e.kind ≡ 4))
+        × (is_in_segments lead ≡ true → (octet_of e.kind ≡ 3) ⊎ (octet_of e.kind ≡ 4))
         × (length c.now ≤ 8192)
         × (behind ≤ 8192)
         × (e.simple ≡ true) }
     ensures { let d = c.now in
-        result ≡ told d leaf_size (read_leaf_in (body_at table.now e.kind e.own) (is_in_segments lead) indefinite left behind d) }
+        result ≡ told d leaf_size (read_leaf_in (body_at table.now (octet_of e.kind) e.own) (is_in_segments lead) indefinite left behind d) }
 {
     if !indefinite {
         if let Some(size) = contents_size(table, e, lead, c) {
@@ -106,8 +108,7 @@ fn judge_contents(
 // values in it have `level` levels.
 #[cycle(judge_members_judge_value)]
 fn judge_value(
-    table: &[u8],
-    index: &[u64; 128],
+    table: &Passed,
     w: u64,
     m: &[u8],
     at: usize,
@@ -115,10 +116,9 @@ fn judge_value(
     level: usize,
     way: &mut [u16; 128],
 ) -> Result<Judged, Unread>
-    requires { ToJudgeValue table.now index.now w m.now at from level way.old }
-    ensures { (length way.new ≡ 128)
-        × (let b = table.now in
-        result ≡ told m.now size (read_record (table_in b) level (record_in b (unpacked w)) (drop at m.now))) }
+    requires { ToJudgeValue table.now.octets.now table.now.index.now w m.now at from level }
+    ensures { let b = table.now.octets.now in
+        result ≡ told m.now size (read_record (table_in b) level (record_in b (unpacked w)) (drop at m.now)) }
 {
     let e = unpack(w);
     let mut notes = [0u16; 4];
@@ -140,9 +140,9 @@ fn judge_value(
     let c = &m[start..stop];
     let behind = m.len() - stop;
     let inside = if e.simple {
-        judge_contents(table, e, m[x.at], c, y.indefinite, left, behind)?
+        judge_contents(table.octets, e, m[x.at], c, y.indefinite, left, behind)?
     } else {
-        match judge_members(table, index, w, c, y.indefinite, level, way) {
+        match judge_members(table, w, c, y.indefinite, level, way) {
             Ok(z) => z,
             Err(u) => {
                 return Err(Unread {
@@ -166,21 +166,19 @@ fn judge_value(
 // which m begins. Their values have `level` levels.
 #[cycle(judge_members_judge_value)]
 fn judge_members(
-    table: &[u8],
-    index: &[u64; 128],
+    table: &Passed,
     w: u64,
     m: &[u8],
     indefinite: bool,
     level: usize,
     way: &mut [u16; 128],
 ) -> Result<Judged, Unread>
-    requires { ToJudge table.now index.now w m.now level way.old }
-    ensures { (length way.new ≡ 128)
-        × (let b = table.now in
-        result ≡ told m.now size (read_held (table_in b) (read_value (table_in b) level) (held b w) (mode indefinite) m.now)) }
+    requires { ToJudge table.now.octets.now table.now.index.now w m.now level }
+    ensures { let b = table.now.octets.now in
+        result ≡ told m.now size (read_held (table_in b) (read_value (table_in b) level) (held b w) (mode indefinite) m.now) }
 {
     let e = unpack(w);
-    let s = parts(table, e);
+    let s = parts(table.octets, e);
     let mut came = [0u16; 16];
     let mut total = node_size(e.kind, s.count);
     let mut at: usize = 0;
@@ -192,9 +190,9 @@ fn judge_members(
             Ok(Some(end)) => return Ok(Judged { end, size: total }),
             Err(cause) => return Err(Unread { cause, left }),
         }
-        let x = match in_turn(table, index, w, s, m, at, j, &came) {
+        let x = match in_turn(table, w, s, m, at, j, &came) {
             Some(x) => x,
-            None => match search(table, index, w, &m[at..], j, &came, way) {
+            None => match search(table, w, &m[at..], j, &came, way) {
                 Ok(x) => x,
                 Err(cause) => return Err(Unread { cause, left }),
             },
@@ -205,16 +203,16 @@ fn judge_members(
                 left,
             });
         }
-        if e.kind == SET {
+        if e.kind == Kind::Set {
             came[x.place] = 1;
         }
         j = x.place + s.step / 2;
-        let found = index[x.record];
+        let found = table.index[x.record];
         let below = level - x.depth - 1;
-        let y = judge_value(table, index, found, m, at, at + x.from, below, way)?;
+        let y = judge_value(table, found, m, at, at + x.from, below, way)?;
         at = y.end;
         total = grow(total, y.size + 4 * x.depth);
-        if holds_one(e.kind) {
+        if e.kind.holds_one() {
             return Ok(Judged {
                 end: at,
                 size: total,
@@ -224,19 +222,10 @@ fn judge_members(
 }
 
 // A whole message of type t.
-pub fn judge(
-    table: &[u8],
-    index: &[u64; 128],
-    t: usize,
-    m: &[u8],
-    way: &mut [u16; 128],
-) -> Result<Judged, Unread>
-    requires { Ready table.now index.now
-        × (t < count_in table.now)
-        × (length m.now ≤ 8192)
-        × (length way.old ≡ 128) }
-    ensures { (length way.new ≡ 128)
-        × (result ≡ told m.now size (read_message (table_in table.now) 24 t m.now)) }
+pub fn judge(table: &Passed, t: usize, m: &[u8], way: &mut [u16; 128]) -> Result<Judged, Unread>
+    requires { (t < count_in table.now.octets.now)
+        × (length m.now ≤ 8192) }
+    ensures { result ≡ told m.now size (read_message (table_in table.now.octets.now) 24 t m.now) }
 {
     if m.len() == 0 {
         return Err(Unread {
@@ -244,7 +233,7 @@ pub fn judge(
             left: 0,
         });
     }
-    let x = judge_members(table, index, whole(t as u16), m, false, LEVELS, way)?;
+    let x = judge_members(table, whole(t as u16), m, false, LEVELS, way)?;
     if x.end < m.len() {
         return Err(Unread {
             cause: ReadingCause::Trailing,

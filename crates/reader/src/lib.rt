@@ -13,35 +13,25 @@ mod tags;
 
 ghost use Rattle.std.specs.Prelude.{◌≡◌};
 ghost use Rattle.table.specs.Reading.{table_in};
-ghost use Rattle.table.specs.Passes.{Passes};
-ghost use Rattle.records.specs.Entries.{Filled};
 ghost use Rattle.coding.specs.Calls.{read_outcome, whole_read};
 
+use checker::passed::Passed;
 use coding::{LONGEST_MESSAGE, LONGEST_VALUE, MessageCause, Misread, Refusal, TableCause};
 
-// Reads a message of type t, by a table of n records that passed.
-fn read_passed(
-    table: &[u8],
-    index: &[u64; 128],
-    n: usize,
-    t: usize,
-    message: &[u8],
-    buf: &mut [u8],
-) -> Result<usize, Refusal>
-    requires { Filled table.now index.now n
-        × Passes table.now (table_in table.now) n }
-    ensures { let x = read_outcome (table_in table.now) n t message.now buf.old in
+// Reads a message of type t, by a table that passed.
+fn read_passed(table: &Passed, t: usize, message: &[u8], buf: &mut [u8]) -> Result<usize, Refusal>
+    ensures { let x = read_outcome (table_in table.now.octets.now) table.now.count t message.now buf.old in
         (result ≡ x.answer)
         × (buf.new ≡ x.buffer) }
 {
-    if n <= t {
+    if table.count <= t {
         return Err(Refusal::Table(TableCause::Unknown));
     }
     if LONGEST_MESSAGE < message.len() {
         return Err(Refusal::Message(MessageCause::MessageLength(0)));
     }
     let mut way = [0u16; 128];
-    let x = match judge::judge(table, index, t, message, &mut way) {
+    let x = match judge::judge(table, t, message, &mut way) {
         Ok(x) => x,
         Err(u) => {
             let place = message.len() - u.left;
@@ -57,7 +47,7 @@ fn read_passed(
     if buf.len() < x.size {
         return Err(Refusal::Message(MessageCause::ValueRoom));
     }
-    place::place(table, index, t, message, buf, &mut way);
+    place::place(table, t, message, buf, &mut way);
     Ok(x.size)
 }
 
@@ -68,7 +58,6 @@ pub fn read(table: &[u8], t: usize, message: &[u8], buf: &mut [u8]) -> Result<us
         × (buf.new ≡ x.buffer) }
 {
     let mut index = [0u64; 128];
-    let checked = checker::check_into(table, &mut index);
-    checked.verdict?;
-    read_passed(table, &index, checked.count, t, message, buf)
+    let table = Passed::check(table, &mut index)?;
+    read_passed(&table, t, message, buf)
 }

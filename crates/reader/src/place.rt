@@ -7,7 +7,6 @@ ghost use Rattle.octets.specs.Answer.{got};
 ghost use Rattle.table.specs.Reading.{count_in};
 ghost use Rattle.coding.specs.Value.{Value, octets};
 ghost use Rattle.reader.specs.Items.{message};
-ghost use Rattle.reader.specs.Records.{Ready};
 ghost use Rattle.reader.specs.Sought.{held};
 ghost use Rattle.reader.specs.Placed.{ToPlace, ToPlaceValue, Fits, IsPlaced, held_in, value_in};
 
@@ -17,14 +16,14 @@ use crate::search::{in_turn, search};
 use crate::set::{behind, following, locate};
 use crate::tags::{Inner, close, open};
 use ber::{ending, length};
-use kinds::{CHOICE, SET, has_members, holds_one};
+use checker::passed::Passed;
+use kinds::Kind;
 use records::entry::{parts, unpack, whole};
 
 // The value of w at a place of m: explicit tags, length, and contents, simple ones or items. Its first identifier ends at `from`.
 #[cycle(place_members_place_value)]
 fn place_value(
-    table: &[u8],
-    index: &[u64; 128],
+    table: &Passed,
     w: u64,
     m: &[u8],
     at: usize,
@@ -33,9 +32,8 @@ fn place_value(
     to: usize,
     way: &mut [u16; 128],
 ) -> Placed
-    requires { ToPlaceValue table.now index.now w m.now at from buf.old to way.old }
-    ensures { (length way.new ≡ 128)
-        × IsPlaced (value_in table.now w (drop at m.now)) m.now to buf.old buf.new result }
+    requires { ToPlaceValue table.now.octets.now table.now.index.now w m.now at from buf.old to }
+    ensures { IsPlaced (value_in table.now.octets.now w (drop at m.now)) m.now to buf.old buf.new result }
 {
     let e = unpack(w);
     let mut notes = [0u16; 4];
@@ -55,7 +53,7 @@ fn place_value(
     let mut start = at;
     let mut stop = end;
     let mut indefinite = false;
-    if e.kind != CHOICE {
+    if e.kind != Kind::Choice {
         let x = length::again(around, inner.from);
         start = x.start;
         stop = x.end;
@@ -73,7 +71,7 @@ fn place_value(
         }
     } else {
         let c = &m[start..stop];
-        let x = place_members(table, index, w, c, indefinite, buf, to, way);
+        let x = place_members(table, w, c, indefinite, buf, to, way);
         stop = start + x.end;
         next = x.next;
     }
@@ -89,8 +87,7 @@ fn place_value(
 // CHOICE or a message, with which m begins.
 #[cycle(place_members_place_value)]
 fn place_members(
-    table: &[u8],
-    index: &[u64; 128],
+    table: &Passed,
     w: u64,
     m: &[u8],
     indefinite: bool,
@@ -98,25 +95,27 @@ fn place_members(
     to: usize,
     way: &mut [u16; 128],
 ) -> Placed
-    requires { ToPlace table.now index.now w m.now indefinite buf.old to way.old }
-    ensures { (length way.new ≡ 128)
-        × (let b = table.now in
-        IsPlaced (held_in b (held b w) indefinite m.now) m.now to buf.old buf.new result) }
+    requires { ToPlace table.now.octets.now table.now.index.now w m.now indefinite buf.old to }
+    ensures { let b = table.now.octets.now in
+        IsPlaced (held_in b (held b w) indefinite m.now) m.now to buf.old buf.new result }
 {
+    // Taken out once: the loop then has them in registers.
+    let octets = table.octets;
+    let index = table.index;
     let e = unpack(w);
-    let s = parts(table, e);
+    let s = parts(octets, e);
     let none = [0u16; 16];
     let mut began = [0u16; 16];
     let mut last: usize = 0;
-    if e.kind == SET {
-        last = locate(table, index, w, m, indefinite, &mut began, way);
+    if e.kind == Kind::Set {
+        last = locate(table, w, m, indefinite, &mut began, way);
     }
     let mut next = begin(e.kind, s.count, buf, to);
     let mut at: usize = 0;
     let mut j: usize = 0;
     let mut count: usize = 0;
     loop {
-        if e.kind == SET {
+        if e.kind == Kind::Set {
             let Some(k) = following(&began, j, s.count) else {
                 put_absent(buf, to, j, s.count);
                 return Placed { end: last, next };
@@ -124,7 +123,7 @@ fn place_members(
             put_absent(buf, to, j, k);
             at = began[k] as usize - 1;
             j = k;
-        } else if !holds_one(e.kind) {
+        } else if !e.kind.holds_one() {
             if ending::is_over(m, at, indefinite) {
                 finish(e.kind, j, s.count, count, buf, to);
                 return Placed {
@@ -133,14 +132,14 @@ fn place_members(
                 };
             }
         }
-        let x = match in_turn(table, index, w, s, m, at, j, &none) {
+        let x = match in_turn(table, w, s, m, at, j, &none) {
             Some(x) => x,
             None => {
-                let Ok(x) = search(table, index, w, &m[at..], j, &none, way) else {
+                let Ok(x) = search(table, w, &m[at..], j, &none, way) else {
                     return Placed { end: at, next };
                 };
                 next = put_way(way, x.depth, buf, next);
-                if has_members(e.kind) {
+                if e.kind.has_members() {
                     put_absent(buf, to, j, x.place);
                 }
                 x
@@ -149,33 +148,24 @@ fn place_members(
         put_place(e.kind, x.place, buf, to);
         j = x.place + s.step / 2;
         let found = index[x.record];
-        let y = place_value(table, index, found, m, at, at + x.from, buf, next, way);
+        let y = place_value(table, found, m, at, at + x.from, buf, next, way);
         at = y.end;
         next = y.next;
         count += 1;
-        if holds_one(e.kind) {
+        if e.kind.holds_one() {
             return Placed { end: at, next };
         }
     }
 }
 
 // The value of a whole message of type t.
-pub fn place(
-    table: &[u8],
-    index: &[u64; 128],
-    t: usize,
-    m: &[u8],
-    buf: &mut [u8],
-    way: &mut [u16; 128],
-)
-    requires { Ready table.now index.now
-        × (t < count_in table.now)
+pub fn place(table: &Passed, t: usize, m: &[u8], buf: &mut [u8], way: &mut [u16; 128])
+    requires { (t < count_in table.now.octets.now)
         × (length m.now ≤ 8192)
-        × (length way.old ≡ 128)
-        × Fits (held_in table.now (message t) false m.now) 0 buf.old }
+        × Fits (held_in table.now.octets.now (message t) false m.now) 0 buf.old }
     ensures { (v : Value) → (rest : List ℕ)
-        → held_in table.now (message t) false m.now ≡ got v rest
+        → held_in table.now.octets.now (message t) false m.now ≡ got v rest
         → buf.new ≡ sets buf.old 0 (octets v) }
 {
-    place_members(table, index, whole(t as u16), m, false, buf, 0, way);
+    place_members(table, whole(t as u16), m, false, buf, 0, way);
 }

@@ -3,15 +3,17 @@
 ghost use Rattle.std.specs.Prelude.{◌≡◌, List, ◌≤◌, length, unwrap_or, ◌<◌, IfSome};
 ghost use Rattle.table.specs.Syntax.{Member, Set};
 ghost use Rattle.table.specs.Reading.{table_in};
+ghost use Rattle.kinds.specs.Kinds.{octet_of};
 ghost use Rattle.records.specs.Entries.{unpacked};
 ghost use Rattle.reader.specs.Items.{inside, blank};
-ghost use Rattle.reader.specs.Records.{Ready, Known};
+ghost use Rattle.reader.specs.Records.{Known};
 ghost use Rattle.reader.specs.Sought.{held};
 ghost use Rattle.reader.specs.Placing.{Spotted, end_at};
 ghost use Rattle.reader.specs.Placed.{Following};
 
 use crate::search::search;
 use ber::{ending, item};
+use checker::passed::Passed;
 
 // Behind contents that are over at a place; 00 00 closes them if `indefinite`.
 pub fn behind(at: usize, indefinite: bool) -> usize
@@ -26,7 +28,7 @@ pub fn behind(at: usize, indefinite: bool) -> usize
 
 // The first member from the j-th on, of n, that came.
 pub fn following(began: &[u16; 16], j: usize, n: usize) -> Option<usize>
-    requires { (j ≤ n) × (n ≤ 16) × (length began.now ≡ 16) }
+    requires { (j ≤ n) × (n ≤ 16) }
     ensures { Following began.now j n (unwrap_or result n) × IfSome result (λ k. k < n) }
 {
     (j..n).find(|&k| began[k] != 0)
@@ -34,30 +36,25 @@ pub fn following(began: &[u16; 16], j: usize, n: usize) -> Option<usize>
 
 // Where each member begins, and where the contents end, of a SET that was accepted; 00 00 closes them if `indefinite`.
 pub fn locate(
-    table: &[u8],
-    index: &[u64; 128],
+    table: &Passed,
     w: u64,
     m: &[u8],
     indefinite: bool,
     began: &mut [u16; 16],
     way: &mut [u16; 128],
 ) -> usize
-    requires { Ready table.now index.now
-        × Known table.now index.now w
-        × ((unpacked w).kind ≡ 17)
+    requires { Known table.now.octets.now table.now.index.now w
+        × (octet_of (unpacked w).kind ≡ 17)
         × (length m.now ≤ 8192)
-        × (began.old ≡ blank)
-        × (length way.old ≡ 128) }
-    ensures { (length began.new ≡ 16)
-        × (length way.new ≡ 128)
-        × ((ms : List Member) → held table.now w ≡ inside (Set ms)
-        → Spotted (table_in table.now) ms indefinite m.now began.new result) }
+        × (began.old ≡ blank) }
+    ensures { ((ms : List Member) → held table.now.octets.now w ≡ inside (Set ms)
+        → Spotted (table_in table.now.octets.now) ms indefinite m.now began.new result) }
 {
     let mut at: usize = 0;
     while !ending::is_over(m, at, indefinite) {
         let rest = &m[at..];
         let came = *began;
-        let Ok(x) = search(table, index, w, rest, 0, &came, way) else {
+        let Ok(x) = search(table, w, rest, 0, &came, way) else {
             return at;
         };
         let place = x.place;

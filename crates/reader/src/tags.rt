@@ -1,15 +1,15 @@
 // Explicit tags (X.690, 8.14), of which a record has at most four: they are opened from the outermost in, and closed from the innermost out.
-ghost use Rattle.std.specs.Prelude.{◌≡◌, List, ℕ, ◌<◌, ◌≤◌, length, take, drop};
+ghost use Rattle.std.specs.Prelude.{◌≡◌, ℕ, ◌<◌, ◌≤◌, length, take, drop};
 ghost use Rattle.octets.specs.Answer.{got};
 ghost use Rattle.records.specs.Entries.{unpacked};
 ghost use Rattle.reader.specs.Answers.{told};
 ghost use Rattle.reader.specs.Codes.{either};
-ghost use Rattle.reader.specs.Records.{Ready, record_in, IsRecord};
+ghost use Rattle.reader.specs.Records.{record_in, IsRecord};
 ghost use Rattle.reader.specs.Wraps.{note_of, Headed, AwaitsTag, EntersTag, Opens, Around, closing};
 
 use crate::answer::Judged;
 use ber::{ending, identifier, length};
-use kinds::is_string;
+use checker::passed::Passed;
 use records::entry::{tag_code, tag_count, unpack};
 use x690::{ReadingCause, Unread};
 
@@ -33,24 +33,23 @@ fn note(end: usize, indefinite: bool) -> u16
     n as u16
 }
 
-// Where the identifier of the j-th tag of w ends, which m must begin with; a string's own may be constructed too. There is none if a CHOICE has
-// no tag more.
-fn awaited(table: &[u8], w: u64, j: usize, m: &[u8]) -> Result<usize, ReadingCause>
-    requires { (index : List ℕ) × Ready table.now index × IsRecord table.now index w }
-    ensures { AwaitsTag (record_in table.now (unpacked w)) j m.now result }
+// Where the identifier of the j-th tag of w ends, which m must begin with; a string's own may be constructed too. 0 behind the last tag, as of a CHOICE.
+fn awaited(table: &Passed, w: u64, j: usize, m: &[u8]) -> Result<usize, ReadingCause>
+    requires { IsRecord table.now.octets.now table.now.index.now w }
+    ensures { AwaitsTag (record_in table.now.octets.now (unpacked w)) j m.now result }
 {
     let e = unpack(w);
     if tag_count(e) <= j {
         return Ok(0);
     }
     let i = identifier::read(m)?;
-    let awaited = tag_code(table, e, j);
+    let awaited = tag_code(table.octets, e, j);
     if i.code == awaited {
         return Ok(i.end);
     }
     if i.code == awaited + 32 {
         if e.explicit as usize == j {
-            if is_string(e.kind) {
+            if e.kind.is_string() {
                 return Ok(i.end);
             }
         }
@@ -59,9 +58,15 @@ fn awaited(table: &[u8], w: u64, j: usize, m: &[u8]) -> Result<usize, ReadingCau
 }
 
 // Whether an item follows in the contents m of a tag, which 00 00 closes if `indefinite`; then the j-th tag of w is awaited.
-fn enter(table: &[u8], w: u64, j: usize, m: &[u8], indefinite: bool) -> Result<usize, ReadingCause>
-    requires { (index : List ℕ) × Ready table.now index × IsRecord table.now index w }
-    ensures { EntersTag (record_in table.now (unpacked w)) j m.now indefinite result }
+fn enter(
+    table: &Passed,
+    w: u64,
+    j: usize,
+    m: &[u8],
+    indefinite: bool,
+) -> Result<usize, ReadingCause>
+    requires { IsRecord table.now.octets.now table.now.index.now w }
+    ensures { EntersTag (record_in table.now.octets.now (unpacked w)) j m.now indefinite result }
 {
     match ending::read(m, 0, indefinite)? {
         None => awaited(table, w, j, m),
@@ -71,21 +76,18 @@ fn enter(table: &[u8], w: u64, j: usize, m: &[u8], indefinite: bool) -> Result<u
 
 // Opens the explicit tags of w; the outermost begins at `at`, and its identifier ends at `from`.
 pub fn open(
-    table: &[u8],
+    table: &Passed,
     w: u64,
     m: &[u8],
     at: usize,
     from: usize,
     notes: &mut [u16; 4],
 ) -> Result<Inner, Unread>
-    requires { (index : List ℕ) × Ready table.now index
-        × IsRecord table.now index w
+    requires { IsRecord table.now.octets.now table.now.index.now w
         × (0 < (unpacked w).explicit)
-        × Headed m.now at from (either (record_in table.now (unpacked w))) (unpacked w).code
-        × (length m.now ≤ 8192)
-        × (length notes.old ≡ 4) }
-    ensures { (length notes.new ≡ 4)
-        × Opens table.now (record_in table.now (unpacked w)) m.now at (take (unpacked w).explicit notes.new) result }
+        × Headed m.now at from (either (record_in table.now.octets.now (unpacked w))) (unpacked w).code
+        × (length m.now ≤ 8192) }
+    ensures { Opens table.now.octets.now (record_in table.now.octets.now (unpacked w)) m.now at (take (unpacked w).explicit notes.new) result }
 {
     let e = unpack(w);
     let count = e.explicit as usize;
@@ -130,7 +132,6 @@ pub fn close(
     size: usize,
 ) -> Result<Judged, Unread>
     requires { (count ≤ 4)
-        × (length notes.now ≡ 4)
         × (at ≤ end)
         × (length m.now ≤ 8192)
         × (size < 16386)

@@ -1,13 +1,15 @@
 // The entries of a table's index, one number a record: what is looked up of a record, and the places in the table to which it leads
 // (FORMATS, "Tables"). Every function is total.
-ghost use Rattle.std.specs.Prelude.{◌≡◌, true, false, not, ◌&&◌, ◌||◌, ◌<◌, ◌+◌, ◌-◌, ◌*◌, ◌%◌, ◌^◌, eqb, leb, ltb, length, get_or};
+ghost use Rattle.std.specs.Prelude.{◌≡◌, false, not, ◌&&◌, ◌||◌, ◌<◌, ◌+◌, ◌*◌, ◌%◌, ◌^◌, eqb, leb, ltb, length, get_or};
 ghost use Rattle.octets.specs.Numbers.{two};
 ghost use Rattle.ber.specs.Codes.{code};
 ghost use Rattle.table.specs.Reading.{numbers_at};
+ghost use Rattle.kinds.specs.Kinds.{octet_of};
+ghost use Rattle.kinds.specs.declared.Kind.TheVariants.{Message};
 ghost use Rattle.records.specs.Entries.{unpacked, tag_count, tag_place, counted as Entries·counted, span_of, lists_number};
 
 use ber::identifier::code_of;
-use kinds::{CHOICE, MESSAGE, has_members, is_list};
+use kinds::Kind;
 use octets::{holds, octet, two};
 
 // No code of an identifier: it stands for the first identifier of a CHOICE without tags.
@@ -22,7 +24,7 @@ pub const LACKING: u8 = 127;
 pub struct Entry {
     pub code: u32,
     pub own: u16,
-    pub kind: u8,
+    pub kind: Kind,
     pub explicit: u8,
     pub simple: bool,
 }
@@ -34,7 +36,7 @@ pub fn unpack(w: u64) -> Entry
     Entry {
         code: first(w),
         own: (w / 4294967296 % 65536) as u16,
-        kind: (w / 281474976710656 % 256) as u8,
+        kind: Kind::at((w / 281474976710656 % 256) as u8),
         explicit: (w / 72057594037927936 % 128) as u8,
         simple: 9223372036854775808 <= w,
     }
@@ -50,9 +52,9 @@ pub fn first(w: u64) -> u32
 
 // The entry of a message of type t, in which one item stands.
 pub fn whole(t: u16) -> u64
-    ensures { unpacked result ≡ record { code = 0; own = t; kind = 51; explicit = 0; simple = false } }
+    ensures { unpacked result ≡ record { code = 0; own = t; kind = Message; explicit = 0; simple = false } }
 {
-    (MESSAGE as u64 * 65536 + t as u64) * 4294967296
+    (Kind::Message.place() as u64 * 65536 + t as u64) * 4294967296
 }
 
 // How many tags it has.
@@ -60,7 +62,7 @@ pub fn whole(t: u16) -> u64
 pub fn tag_count(e: Entry) -> usize
     ensures { (result ≡ tag_count e) × (result < 257) }
 {
-    if e.kind == CHOICE {
+    if e.kind == Kind::Choice {
         return e.explicit as usize;
     }
     if e.explicit == LACKING {
@@ -121,17 +123,16 @@ pub fn alternatives(table: &[u8], e: Entry) -> Span
 // The parts of any; a message has none in the table.
 #[tactic(auto, unfolding(crate::specs::Entries::span_of))]
 pub fn parts(table: &[u8], e: Entry) -> Span
-    ensures { result ≡ span_of table.now e.kind e.own }
+    ensures { result ≡ span_of table.now (octet_of e.kind) e.own }
 {
     let own = e.own as usize;
-    let kind = e.kind;
-    if has_members(kind) {
+    if e.kind.has_members() {
         return counted(table, own, 2);
     }
-    if kind == CHOICE {
+    if e.kind == Kind::Choice {
         return counted(table, own, 1);
     }
-    if is_list(kind) {
+    if e.kind.is_list() {
         return Span {
             first: own,
             count: 1,

@@ -8,7 +8,7 @@ ghost use Rattle.times.specs.Alone.{at_start};
 use clock::own;
 use coding::{MessageCause, Refusal, ValueCause};
 use dates::{DateTime, TimeKind};
-use kinds::{GENERALIZED_TIME, UTC_TIME};
+use kinds::Kind;
 use writer::lone::is_lone;
 
 // The mark, the kind, and the seven octets of a time.
@@ -19,8 +19,8 @@ fn number(kind: TimeKind) -> u8
     ensures { result ≡ time_number kind }
 {
     match kind {
-        TimeKind::Utc => UTC_TIME,
-        TimeKind::Generalized => GENERALIZED_TIME,
+        TimeKind::Utc => Kind::UtcTime.octet(),
+        TimeKind::Generalized => Kind::GeneralizedTime.octet(),
     }
 }
 

@@ -1,4 +1,4 @@
--- A constructed node against a record: its kind, the count and the presence of its members, its alternative.
+-- A constructed node against a record of its kind: the count and the presence of its members, its alternative.
 -- Assumes nothing.
 use mathlib.Core.Bool.{Bool, true, false, ◌&&◌, ◌||◌, false≢true}
 use mathlib.Core.List.{List}
@@ -16,17 +16,17 @@ use Rattle.table.specs.Octets.{kind}
 use Rattle.table.specs.Rules.{members}
 use Rattle.table.specs.Reading.{numbers_at, members_at, every_at, body_at}
 use Rattle.table.specs.Fields.{constructed_of}
+use Rattle.kinds.specs.Kinds.{octet_of}
 use Rattle.records.specs.Entries.{span_of, counted, lists_number}
 use Rattle.records.specs.declared.entry.Entry.{Entry}
 use Rattle.records.specs.declared.entry.Span.{Span}
-use Rattle.records.proofs.Promises.{entered_kind, entered_enumerated}
+use Rattle.records.proofs.Promises.{entered_enumerated}
 use Rattle.coding.specs.Form.{alternatives}
 use Rattle.coding.specs.Content.{listed}
 use Rattle.coding.specs.Judging.{flags, leaf_kind, node_kind, numbers, leaf_agrees, agreeing, counts, agrees}
 use Rattle.writer.specs.Nodes.{own_end, leaf_of, node_of}
 use Rattle.writer.specs.Known.{record_in, Known}
-use Rattle.writer.specs.Standing.{parts_of}
-use Rattle.writer.proofs.Nodes.{node_kind_lem, fixed_is, members_is, not_simple, no_built}
+use Rattle.writer.proofs.Nodes.{fixed_is, members_is, not_simple, no_built}
 
 -- the mandatory members are present: a loop over them that has come to the i-th
 module _ (b : List ℕ) (p n : ℕ) (v : List ℕ) (q i : ℕ) (w : Bool) (e : agreeing (members_at b (p + 2 * i) (n - i)) (flags (every_at 1 v (q + i) (n - i))) ≡ w) where
@@ -106,70 +106,58 @@ module _ (b v : List ℕ) (own p : ℕ) where
       none : 0 < 0 → ⊥
       none h = omega arith
 
--- an entry against a node of kind k: the ways out
-module _ (b : List ℕ) (e : Entry) (K : Known b e) (v : List ℕ) (k p : ℕ) where
+-- a record's body whose own octets are at own against a node of its kind k: the ways out
+module _ (b v : List ℕ) (own k p : ℕ) where
   abbrev Agrees : Bool
-  Agrees = agrees (record_in b e).body (node_of k v p)
+  Agrees = agrees (body_at b k own) (node_of k v p)
 
-  pub agrees_not : 0 < own_end k v p → (k ≡ e.kind → ⊥) → false ≡ Agrees
-  unfolding agrees
-  agrees_not h f =
-      let n : node_kind (node_of k v p) ≡ k = node_kind_lem k v p h in
-      let d : eqb k (kind (record_in b e).body) ≡ false = ne_eqb k (kind (record_in b e).body) (λ z. f (z ∙ sym (entered_kind K.entered))) in
-      rw (n, d) refl
+  module _ (s : Span) (es : s ≡ span_of b k own) (t : Bool) (et : t ≡ (eqb k 16 || eqb k 17)) where
+    -- members
+    module _ (h : t ≡ true) where
+      with : WithMembers b v own p k
+      with = with_members b v own p k (sym et ∙ h)
 
-  module _ (ek : k ≡ e.kind) where
-    by_kind : agrees (body_at b k e.own) (node_of k v p) ≡ Agrees
-    by_kind = rw ek refl
+      span : s ≡ counted b own 2
+      span = es ∙ with.1
 
-    -- members; s are the parts of the entry's record
-    module _ (s : Span) (es : s ≡ parts_of b e) (t : Bool) (et : t ≡ (eqb k 16 || eqb k 17)) where
-      module _ (h : t ≡ true) where
-        with : WithMembers b v e.own p k
-        with = with_members b v e.own p k (sym et ∙ h)
+      pub members_there : 0 < own_end k v p → p + 1 + get_or v p 0 ≤ length v
+      unfolding own_end
+      members_there g = or_by (eqb k 16) (eqb k 17) (sym et ∙ h) (λ a. (members_is v p (rw (eqb-true k 16 a) at g)).1) λ a. (members_is v p
+          (rw (eqb-true k 17 a) at g)).1
 
-        span : s ≡ counted b e.own 2
-        span = es ∙ rw (← ek) with.1
+      pub agrees_count : (get_or v p 0 ≡ s.count → ⊥) → false ≡ Agrees
+      agrees_count f =
+          sym (agreeing_long b (own + 1) (get_or b own 0) v (p + 1) (get_or v p 0) (λ z. f (z ∙ sym (ap (λ (x : Span). x.count) span))))
+          ∙ sym with.0
 
-        pub members_there : 0 < own_end k v p → p + 1 + get_or v p 0 ≤ length v
-        unfolding own_end
-        members_there g = or_by (eqb k 16) (eqb k 17) (sym et ∙ h) (λ a. (members_is v p (rw (eqb-true k 16 a) at g)).1) λ a. (members_is v p
-            (rw (eqb-true k 17 a) at g)).1
+      pub agrees_complete : get_or v p 0 ≡ s.count → (r : Bool)
+          → r ≡ agreeing (members_at b s.first s.count) (flags (every_at 1 v (p + 1) s.count)) → r ≡ Agrees
+      agrees_complete f r er =
+          let q : agreeing (members_at b s.first s.count) (flags (every_at 1 v (p + 1) s.count)) ≡ agreeing (members_at b (own + 1) (get_or b own 0)) (flags (every_at 1 v (p + 1) (get_or v p 0))) = rw (f, span) refl in
+          er ∙ q ∙ sym with.0
 
-        pub agrees_count : (get_or v p 0 ≡ s.count → ⊥) → false ≡ Agrees
-        agrees_count f =
-            sym (agreeing_long b (e.own + 1) (get_or b e.own 0) v (p + 1) (get_or v p 0) (λ z. f (z ∙ sym (ap (λ (x : Span). x.count) span))))
-            ∙ sym with.0 ∙ by_kind
+      pub members_near : Octets b → own < 65536 → (s.first < 70000) × (s.count < 256)
+      members_near o l = rw span (omega arith, o own)
 
-        pub agrees_complete : get_or v p 0 ≡ s.count → (r : Bool)
-            → r ≡ agreeing (members_at b s.first s.count) (flags (every_at 1 v (p + 1) s.count)) → r ≡ Agrees
-        agrees_complete f r er =
-            let q : agreeing (members_at b s.first s.count) (flags (every_at 1 v (p + 1) s.count)) ≡ agreeing (members_at b (e.own + 1) (get_or b e.own 0)) (flags (every_at 1 v (p + 1) (get_or v p 0))) = rw (f, span) refl in
-            er ∙ q ∙ sym with.0 ∙ by_kind
+    module _ (h : t ≡ false) where
+      -- an alternative
+      pub choice_there : k ≡ 50 → 0 < own_end k v p → p < length v
+      unfolding own_end
+      choice_there f g = let z = (fixed_is v (p + 1) (rw f at g)).1 in omega arith
 
-        pub members_near : Octets b → e.own < 65536 → (s.first < 70000) × (s.count < 256)
-        members_near o l = rw span (omega arith, o e.own)
+      pub agrees_choice : k ≡ 50 → ltb (get_or v p 0) s.count ≡ Agrees
+      agrees_choice f =
+          let z = with_choice b v own p k f in
+          let q : s.count ≡ get_or b own 0 = ap (λ (y : Span). y.count) (es ∙ z.1) in
+          rw q (sym z.0)
 
-      module _ (h : t ≡ false) where
-        -- an alternative
-        pub choice_there : k ≡ 50 → 0 < own_end k v p → p < length v
-        unfolding own_end
-        choice_there f g = let z = (fixed_is v (p + 1) (rw f at g)).1 in omega arith
+      -- elements
+      pub agrees_list : (k ≡ 50 → ⊥) → constructed_of k ≡ true → 0 < own_end k v p → true ≡ Agrees
+      agrees_list f g i =
+          let z = or_false (eqb k 16) (eqb k 17) (sym et ∙ h) in
+          sym (with_rest b v own p k g z.0 z.1 (ne_eqb k 50 f) i)
 
-        pub agrees_choice : k ≡ 50 → ltb (get_or v p 0) s.count ≡ Agrees
-        agrees_choice f =
-            let z = with_choice b v e.own p k f in
-            let x : s ≡ counted b e.own 1 = es ∙ rw (← ek) z.1 in
-            let q : s.count ≡ get_or b e.own 0 = ap (λ (y : Span). y.count) x in
-            rw q (sym z.0) ∙ by_kind
-
-        -- elements
-        pub agrees_list : (k ≡ 50 → ⊥) → constructed_of k ≡ true → 0 < own_end k v p → true ≡ Agrees
-        agrees_list f g i =
-            let z = or_false (eqb k 16) (eqb k 17) (sym et ∙ h) in
-            sym (with_rest b v e.own p k g z.0 z.1 (ne_eqb k 50 f) i) ∙ by_kind
-
--- a leaf of kind k against an entry
+-- a leaf of kind k against a body of that kind
 abbrev LeafRest : List ℕ → List ℕ → ℕ → ℕ → ℕ → Type 0
 LeafRest b v own p k = constructed_of k ≡ false → eqb k 10 ≡ false → 0 < own_end k v p → agrees (body_at b k own) (node_of k v p) ≡ true
 
@@ -186,26 +174,26 @@ leaf_rest b v own p k =
     let (e₁₆, e₁₇, e₄₈, e₄₉, e₅₀) = no_built k g in
     absurd (omega (arith, rw (e₁, e₂, e₃, e₄, e₅, e₁₀, e₂₃, e₂₄, e₁₆, e₁₇, e₄₈, e₄₉, e₅₀) at h))
 
-module _ (b : List ℕ) (e : Entry) (K : Known b e) (v : List ℕ) (k p : ℕ) (ek : k ≡ e.kind) where
-  pub leaf_agrees_lem : constructed_of k ≡ false → (k ≡ 10 → ⊥) → 0 < own_end k v p → true ≡ agrees (record_in b e).body (node_of k v p)
-  leaf_agrees_lem g f h = sym (leaf_rest b v e.own p k g (ne_eqb k 10 f) h) ∙ by_kind b e K v k p ek
+module _ (b v : List ℕ) (own k p : ℕ) where
+  pub leaf_agrees_lem : constructed_of k ≡ false → (k ≡ 10 → ⊥) → 0 < own_end k v p → true ≡ agrees (body_at b k own) (node_of k v p)
+  leaf_agrees_lem g f h = sym (leaf_rest b v own p k g (ne_eqb k 10 f) h)
 
   pub number_there : k ≡ 10 → 0 < own_end k v p → p + 2 ≤ length v
   unfolding own_end
   number_there f h = (fixed_is v (p + 2) (rw f at h)).1
 
-  -- a number that is listed
-  module _ (f : k ≡ 10) (n : ℕ) (en : n ≡ two v p) (z : ℤ) (ez : z ≡ pos n) where
-    numbers_of : (record_in b e).body ≡ Plain (Enumerated (numbers_at b (e.own + 1) (get_or b e.own 0)))
-    unfolding body_at
-    numbers_of = rw (sym ek ∙ f) refl
+-- a number that is listed
+module _ (b : List ℕ) (e : Entry) (K : Known b e) (v : List ℕ) (p : ℕ) (f : octet_of e.kind ≡ 10) (n : ℕ) (en : n ≡ two v p) (z : ℤ) (ez : z ≡ pos n) where
+  numbers_of : (record_in b e).body ≡ Plain (Enumerated (numbers_at b (e.own + 1) (get_or b e.own 0)))
+  unfolding body_at
+  numbers_of = rw f refl
 
-    listed_is : lists_number (numbers_at b (e.own + 1) (get_or b e.own 0)) (pos (two v p)) ≡ agrees (body_at b k e.own) (node_of k v p)
-    unfolding agrees node_of leaf_of node_kind leaf_kind kind body_at counts leaf_agrees numbers listed
-    listed_is = rw f refl
+  listed_is : lists_number (numbers_at b (e.own + 1) (get_or b e.own 0)) (pos (two v p)) ≡ agrees (record_in b e).body (node_of (octet_of e.kind) v p)
+  unfolding agrees node_of leaf_of node_kind leaf_kind kind body_at counts leaf_agrees numbers listed
+  listed_is = rw f refl
 
-    pub number_agrees : (r : Bool) → r ≡ (leb (e.own + 1 + 2 * get_or b e.own 0) (length b) && lists_number (numbers_at b (e.own + 1) (get_or b e.own 0)) z)
-        → r ≡ agrees (record_in b e).body (node_of k v p)
-    number_agrees r er =
-        let w = (entered_enumerated K.entered (numbers_at b (e.own + 1) (get_or b e.own 0)) numbers_of).within in
-        er ∙ rw (w, ez, en) (listed_is ∙ by_kind b e K v k p ek)
+  pub number_agrees : (r : Bool) → r ≡ (leb (e.own + 1 + 2 * get_or b e.own 0) (length b) && lists_number (numbers_at b (e.own + 1) (get_or b e.own 0)) z)
+      → r ≡ agrees (record_in b e).body (node_of (octet_of e.kind) v p)
+  number_agrees r er =
+      let w = (entered_enumerated K.entered (numbers_at b (e.own + 1) (get_or b e.own 0)) numbers_of).within in
+      er ∙ rw (w, ez, en) listed_is

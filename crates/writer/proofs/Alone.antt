@@ -18,8 +18,11 @@ use Rattle.table.specs.Reading.{every_at}
 use Rattle.table.specs.Fields.{constructed_of}
 use Rattle.coding.specs.Judging.{Node, flags}
 use Rattle.coding.specs.Reckoning.{childless, is_whole, is_lone}
+use Rattle.kinds.specs.declared.Kind.{Kind}
+use Rattle.kinds.specs.Kinds.{octet_of}
+use Rattle.kinds.proofs.Same.{no_octet}
 use Rattle.writer.specs.Nodes.{fixed_end, members_end, own_end, node_of, IsMarked, Marked}
-use Rattle.writer.proofs.Nodes.{leaf_node, end_none}
+use Rattle.writer.proofs.Nodes.{leaf_node, end_none, no_kind_constructed}
 use Rattle.writer.proofs.Reading.{and_true, Reads, bad, good, node_reads}
 use Rattle.writer.proofs.Agreement.{and_false}
 
@@ -189,3 +192,8 @@ module _ (v : List ℕ) where
 
       pub lone_none : constructed_of kind ≡ true → (eqb kind 16 || eqb kind 17) ≡ false → (eqb kind 48 || eqb kind 49) ≡ false → false ≡ is_lone v
       lone_none c k l = sym (lone_is ∙ alone_none v 3 some kind c k l)
+
+      pub lone_no_kind : ((j : Kind) → octet_of j ≡ kind → ⊥) → false ≡ is_lone v
+      lone_no_kind h =
+          let (e₁, e₂, e₃, e₄, e₅, e₁₀, e₂₃, e₂₄, e₁₆, e₁₇, e₄₈, e₄₉, e₅₀) = no_octet kind h in
+          lone_none (no_kind_constructed kind h) (rw (e₁₆, e₁₇) refl) (rw (e₄₈, e₄₉) refl)

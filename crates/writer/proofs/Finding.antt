@@ -18,6 +18,7 @@ use Rattle.table.specs.Rules.{members}
 use Rattle.table.specs.Reading.{members_at, every_at, body_at, table_in, count_in}
 use Rattle.table.specs.Passes.{Passes}
 use Rattle.table.specs.Fields.{constructed_of}
+use Rattle.kinds.specs.Kinds.{octet_of}
 use Rattle.records.specs.Entries.{span_of, counted}
 use Rattle.records.specs.declared.entry.Entry.{Entry}
 use Rattle.records.specs.declared.entry.Span.{Span}
@@ -41,27 +42,27 @@ every_get b p (suc n) zero h = let e : p + 1 * 0 ≡ p = omega arith in rw e ref
 every_get b p (suc n) (suc i) h = let e : p + 1 * suc i ≡ p + 1 + 1 * i = omega arith in rw e (every_get b (p + 1) n i (omega arith))
 
 -- an entry before a node of its kind that is shaped and agrees
-module _ (b : List ℕ) (o : Octets b) (e : Entry) (v : List ℕ) (p : ℕ) (shaped : 0 < own_end e.kind v p) (ag : agrees (record_in b e).body (node_of e.kind
+module _ (b : List ℕ) (o : Octets b) (e : Entry) (v : List ℕ) (p : ℕ) (shaped : 0 < own_end (octet_of e.kind) v p) (ag : agrees (record_in b e).body (node_of (octet_of e.kind)
     v p) ≡ true) where
   abbrev Row : List ℕ
-  Row = row_of (record_in b e).body (node_of e.kind v p)
+  Row = row_of (record_in b e).body (node_of (octet_of e.kind) v p)
 
   pub record Found : Type 0 where
-    pub start : start_at e v p ≡ own_end e.kind v p
+    pub start : start_at e v p ≡ own_end (octet_of e.kind) v p
     pub row : row_in b e v p ≡ Row
     pub part : (i : ℕ) → i < count_at e v p → part_of e v p i < (parts_of b e).count
 
   -- members
-  module _ (h : (eqb e.kind 16 || eqb e.kind 17) ≡ true) where
-    ended : (own_end e.kind v p ≡ p + 1 + get_or v p 0) × (p + 1 + get_or v p 0 ≤ length v)
+  module _ (h : (eqb (octet_of e.kind) 16 || eqb (octet_of e.kind) 17) ≡ true) where
+    ended : (own_end (octet_of e.kind) v p ≡ p + 1 + get_or v p 0) × (p + 1 + get_or v p 0 ≤ length v)
     unfolding own_end
     ended =
-        or_by (eqb e.kind 16) (eqb e.kind 17) h
-        (λ a. let k = eqb-true e.kind 16 a in let z = members_is v p (rw k at shaped) in rw k (z.0, z.1))
-        (λ a. let k = eqb-true e.kind 17 a in let z = members_is v p (rw k at shaped) in rw k (z.0, z.1))
+        or_by (eqb (octet_of e.kind) 16) (eqb (octet_of e.kind) 17) h
+        (λ a. let k = eqb-true (octet_of e.kind) 16 a in let z = members_is v p (rw k at shaped) in rw k (z.0, z.1))
+        (λ a. let k = eqb-true (octet_of e.kind) 17 a in let z = members_is v p (rw k at shaped) in rw k (z.0, z.1))
 
-    members_of : WithMembers b v e.own p e.kind
-    members_of = with_members b v e.own p e.kind h
+    members_of : WithMembers b v e.own p (octet_of e.kind)
+    members_of = with_members b v e.own p (octet_of e.kind) h
 
     as_many : get_or v p 0 ≡ get_or b e.own 0
     as_many = same_count b (e.own + 1) (get_or b e.own 0) v (p + 1) (get_or v p 0) (sym members_of.0 ∙ ag)
@@ -84,7 +85,7 @@ module _ (b : List ℕ) (o : Octets b) (e : Entry) (v : List ℕ) (p : ℕ) (sha
 
     row_of_lem : present_of (members_at b (e.own + 1) (get_or b e.own 0)) (flags (every_at 1 v (p + 1) (get_or v p 0))) ≡ Row
     unfolding row_of body_at node_of members
-    row_of_lem = or_by (eqb e.kind 16) (eqb e.kind 17) h (λ a. rw (eqb-true e.kind 16 a) refl) λ a. rw (eqb-true e.kind 17 a) refl
+    row_of_lem = or_by (eqb (octet_of e.kind) 16) (eqb (octet_of e.kind) 17) h (λ a. rw (eqb-true (octet_of e.kind) 16 a) refl) λ a. rw (eqb-true (octet_of e.kind) 17 a) refl
 
     found_members : Found
     found_members =
@@ -98,17 +99,17 @@ module _ (b : List ℕ) (o : Octets b) (e : Entry) (v : List ℕ) (p : ℕ) (sha
           part = λ i k. rw (← part_members e v p true (sym h) refl i, members_of.1) (let m = as_many in omega arith);
         }
 
-  module _ (h : (eqb e.kind 16 || eqb e.kind 17) ≡ false) where
+  module _ (h : (eqb (octet_of e.kind) 16 || eqb (octet_of e.kind) 17) ≡ false) where
     -- an alternative
-    module _ (f : e.kind ≡ 50) where
-      choice_of : (agrees (body_at b e.kind e.own) (node_of e.kind v p) ≡ ltb (get_or v p 0) (get_or b e.own 0)) × (span_of b e.kind e.own ≡
+    module _ (f : (octet_of e.kind) ≡ 50) where
+      choice_of : (agrees (body_at b (octet_of e.kind) e.own) (node_of (octet_of e.kind) v p) ≡ ltb (get_or v p 0) (get_or b e.own 0)) × (span_of b (octet_of e.kind) e.own ≡
           counted b e.own 1)
-      choice_of = with_choice b v e.own p e.kind f
+      choice_of = with_choice b v e.own p (octet_of e.kind) f
 
       listed : get_or v p 0 < get_or b e.own 0
       listed = ltb-true _ _ (sym choice_of.0 ∙ ag)
 
-      choice_ended : own_end e.kind v p ≡ p + 1
+      choice_ended : own_end (octet_of e.kind) v p ≡ p + 1
       unfolding own_end
       choice_ended = rw f (fixed_is v (p + 1) (rw f at shaped)).0
 
@@ -135,25 +136,25 @@ module _ (b : List ℕ) (o : Octets b) (e : Entry) (v : List ℕ) (p : ℕ) (sha
           }
 
     -- elements
-    module _ (f : (eqb e.kind 48 || eqb e.kind 49) ≡ true) where
-      not_choice : e.kind ≡ 50 → ⊥
-      not_choice z = or_by (eqb e.kind 48) (eqb e.kind 49) f (λ a. let k = eqb-true e.kind 48 a in omega arith) λ a. let k = eqb-true e.kind 49 a
+    module _ (f : (eqb (octet_of e.kind) 48 || eqb (octet_of e.kind) 49) ≡ true) where
+      not_choice : (octet_of e.kind) ≡ 50 → ⊥
+      not_choice z = or_by (eqb (octet_of e.kind) 48) (eqb (octet_of e.kind) 49) f (λ a. let k = eqb-true (octet_of e.kind) 48 a in omega arith) λ a. let k = eqb-true (octet_of e.kind) 49 a
           in omega arith
 
-      not_message : e.kind ≡ 51 → ⊥
-      not_message z = or_by (eqb e.kind 48) (eqb e.kind 49) f (λ a. let k = eqb-true e.kind 48 a in omega arith) λ a. let k = eqb-true e.kind 49 a
+      not_message : (octet_of e.kind) ≡ 51 → ⊥
+      not_message z = or_by (eqb (octet_of e.kind) 48) (eqb (octet_of e.kind) 49) f (λ a. let k = eqb-true (octet_of e.kind) 48 a in omega arith) λ a. let k = eqb-true (octet_of e.kind) 49 a
           in omega arith
 
-      list_ended : own_end e.kind v p ≡ p + 2
+      list_ended : own_end (octet_of e.kind) v p ≡ p + 2
       unfolding own_end
       list_ended =
-          or_by (eqb e.kind 48) (eqb e.kind 49) f
-          (λ a. let k = eqb-true e.kind 48 a in rw k (fixed_is v (p + 2) (rw k at shaped)).0)
-          (λ a. let k = eqb-true e.kind 49 a in rw k (fixed_is v (p + 2) (rw k at shaped)).0)
+          or_by (eqb (octet_of e.kind) 48) (eqb (octet_of e.kind) 49) f
+          (λ a. let k = eqb-true (octet_of e.kind) 48 a in rw k (fixed_is v (p + 2) (rw k at shaped)).0)
+          (λ a. let k = eqb-true (octet_of e.kind) 49 a in rw k (fixed_is v (p + 2) (rw k at shaped)).0)
 
-      list_span : span_of b e.kind e.own ≡ record { first = e.own; count = 1; step = 0 }
+      list_span : span_of b (octet_of e.kind) e.own ≡ record { first = e.own; count = 1; step = 0 }
       unfolding span_of
-      list_span = rw (h, ne_eqb e.kind 50 not_choice, f) refl
+      list_span = rw (h, ne_eqb (octet_of e.kind) 50 not_choice, f) refl
 
       list_type : (i : ℕ) → get_or b e.own 0 ≡ below_at b e v p i
       list_type i =
@@ -167,7 +168,7 @@ module _ (b : List ℕ) (o : Octets b) (e : Entry) (v : List ℕ) (p : ℕ) (sha
 
       list_row_of : replicate (two v p) (get_or b e.own 0) ≡ Row
       unfolding row_of body_at node_of element
-      list_row_of = or_by (eqb e.kind 48) (eqb e.kind 49) f (λ a. rw (eqb-true e.kind 48 a) refl) λ a. rw (eqb-true e.kind 49 a) refl
+      list_row_of = or_by (eqb (octet_of e.kind) 48) (eqb (octet_of e.kind) 49) f (λ a. rw (eqb-true (octet_of e.kind) 48 a) refl) λ a. rw (eqb-true (octet_of e.kind) 49 a) refl
 
       found_list : Found
       found_list =
@@ -189,10 +190,10 @@ module _ (b : List ℕ) (o : Octets b) (e : Entry) (v : List ℕ) (p : ℕ) (sha
       let z = or_false (eqb k 16) (eqb k 17) a in
       absurd (omega (arith, rw (e₁, e₂, e₃, e₄, e₅, e₁₀, e₂₃, e₂₄, z.0, z.1, e₄₈, e₄₉, ne_eqb k 50 f) at s))
 
-  found : constructed_of e.kind ≡ true → Found
+  found : constructed_of (octet_of e.kind) ≡ true → Found
   found g =
-      test (eqb e.kind 16 || eqb e.kind 17) found_members λ h.
-      test (eqb e.kind 50) (λ a. found_choice h (eqb-true e.kind 50 a)) λ a. found_list h (forms e.kind g shaped h (eqb-false e.kind 50 a))
+      test (eqb (octet_of e.kind) 16 || eqb (octet_of e.kind) 17) found_members λ h.
+      test (eqb (octet_of e.kind) 50) (λ a. found_choice h (eqb-true (octet_of e.kind) 50 a)) λ a. found_list h (forms (octet_of e.kind) g shaped h (eqb-false (octet_of e.kind) 50 a))
 
 -- what is there is a record's number
 every_in : (step : ℕ) (b : List ℕ) (p n j : ℕ) → j < n → In (get_or b (p + step * j) 0) (every_at step b p n)
@@ -202,22 +203,22 @@ every_in step b p (suc n) zero h = let e : p + step * 0 ≡ p = omega arith in f
 every_in step b p (suc n) (suc j) h = let e : p + step * suc j ≡ p + step + step * j = simp mul-suc (omega arith) in rw e (later (every_in step b (p + step) n
     j (omega arith)))
 
-below_part : (b : List ℕ) (e : Entry) (v : List ℕ) (p i : ℕ) → (e.kind ≡ 51 → ⊥) → below_at b e v p i < 256
+below_part : (b : List ℕ) (e : Entry) (v : List ℕ) (p i : ℕ) → (octet_of e.kind ≡ 51 → ⊥) → below_at b e v p i < 256
     → get_or b (place_of (parts_of b e) (part_of e v p i)) 0 ≡ below_at b e v p i
 unfolding below_at
 below_part b e v p i m h =
-    test (eqb e.kind 16 || eqb e.kind 17)
+    test (eqb (octet_of e.kind) 16 || eqb (octet_of e.kind) 17)
     (λ a. test (eqb (get_or v (p + 1 + i) 0) 1) (λ c. rw (a, c) refl) λ c. absurd (omega (arith, rw (a, c) at h)))
-    (λ a. rw (a, ne_eqb e.kind 51 m) refl)
+    (λ a. rw (a, ne_eqb (octet_of e.kind) 51 m) refl)
 
 -- the node of record t of a table that passes, at a place of its own part
-module _ (b : List ℕ) (o : Octets b) (e : Entry) (K : Known b e) (v : List ℕ) (p : ℕ) (shaped : 0 < own_end e.kind v p)
-    (ag : agrees (record_in b e).body (node_of e.kind v p) ≡ true) (built : constructed_of e.kind ≡ true) (in_v : own_end e.kind v p ≤ length v)
+module _ (b : List ℕ) (o : Octets b) (e : Entry) (K : Known b e) (v : List ℕ) (p : ℕ) (shaped : 0 < own_end (octet_of e.kind) v p)
+    (ag : agrees (record_in b e).body (node_of (octet_of e.kind) v p) ≡ true) (built : constructed_of (octet_of e.kind) ≡ true) (in_v : own_end (octet_of e.kind) v p ≤ length v)
     (P : Passes b (table_in b) (count_in b)) (t : ℕ) (h : t < count_in b) (is : record_in b e ≡ table_in b t) where
   F : Found b o e v p shaped ag
   F = found b o e v p shaped ag built
 
-  known_type : (i : ℕ) → i < count_at e v p → (e.kind ≡ 51 → ⊥) → below_at b e v p i < 256 → below_at b e v p i < count_in b
+  known_type : (i : ℕ) → i < count_at e v p → (octet_of e.kind ≡ 51 → ⊥) → below_at b e v p i < 256 → below_at b e v p i < count_in b
   known_type i k m l =
       let s = parts_of b e in
       let q : In (get_or b (place_of s (part_of e v p i)) 0) (references (record_in b e).body) = subst (λ (x : List ℕ). In (get_or b (place_of s (part_of e v p i)) 0)
@@ -230,7 +231,7 @@ module _ (b : List ℕ) (o : Octets b) (e : Entry) (K : Known b e) (v : List ℕ
             ltb-false _ _ a;
       }))
 
-  no_message : e.kind ≡ 51 → ⊥
+  no_message : (octet_of e.kind) ≡ 51 → ⊥
   unfolding own_end
   no_message z = omega (arith, rw z at shaped)
 
@@ -242,11 +243,11 @@ module _ (b : List ℕ) (o : Octets b) (e : Entry) (K : Known b e) (v : List ℕ
         types = λ i k l. known_type i k no_message l;
       }
 
-  stand_start : start_at e v p ≡ own_end e.kind v p
+  stand_start : start_at e v p ≡ own_end (octet_of e.kind) v p
   stand_start = F.start
 
-  stand_row : row_in b e v p ≡ row_of (table_in b t).body (node_of e.kind v p)
-  stand_row = F.row ∙ ap (λ (r : Record). row_of r.body (node_of e.kind v p)) is
+  stand_row : row_in b e v p ≡ row_of (table_in b t).body (node_of (octet_of e.kind) v p)
+  stand_row = F.row ∙ ap (λ (r : Record). row_of r.body (node_of (octet_of e.kind) v p)) is
 
 -- the node at a place, which is shaped and agrees with record t
 module _ (b : List ℕ) (e : Entry) (K : Known b e) (v : List ℕ) (at : ℕ) (shaped : 0 < end_at v at) (t : ℕ) (is : record_in b e ≡ table_in b t) (ag : agrees
@@ -257,16 +258,16 @@ module _ (b : List ℕ) (e : Entry) (K : Known b e) (v : List ℕ) (at : ℕ) (s
   agreed : agrees (record_in b e).body (node_at v at) ≡ true
   agreed = subst (λ (r : Record). agrees r.body (node_at v at) ≡ true) (sym is) ag
 
-  pub at_kind : e.kind ≡ get_or v (at + 2) 0
+  pub at_kind : (octet_of e.kind) ≡ get_or v (at + 2) 0
   at_kind = entered_kind K.entered ∙ sym (agreed_kind (record_in b e).body (node_at v at) agreed) ∙ node_kind_lem (get_or v (at + 2) 0) v (at + 3) at_own
 
-  pub at_shaped : 0 < own_end e.kind v (at + 3)
+  pub at_shaped : 0 < own_end (octet_of e.kind) v (at + 3)
   at_shaped = rw at_kind at_own
 
-  agreed_there : agrees (record_in b e).body (node_of e.kind v (at + 3)) ≡ true
+  agreed_there : agrees (record_in b e).body (node_of (octet_of e.kind) v (at + 3)) ≡ true
   agreed_there = subst (λ (k : ℕ). agrees (record_in b e).body (node_of k v (at + 3)) ≡ true) (sym at_kind) agreed
 
-  end_is : own_end e.kind v (at + 3) ≡ end_at v at
+  end_is : own_end (octet_of e.kind) v (at + 3) ≡ end_at v at
   end_is = ap (λ (k : ℕ). own_end k v (at + 3)) at_kind ∙ sym (own_end_is v at shaped)
 
   module _ (o : Octets b) (built : constructed_of (get_or v (at + 2) 0) ≡ true) (in_v : end_at v at ≤ length v) (P : Passes b (table_in b) (count_in b)) (h : t < count_in b) where
@@ -281,11 +282,11 @@ module _ (b : List ℕ) (e : Entry) (K : Known b e) (v : List ℕ) (at : ℕ) (s
         ∙ ap (λ (k : ℕ). row_of (table_in b t).body (node_of k v (at + 3))) at_kind
 
 -- a message of type t
-module _ (b v : List ℕ) (e : Entry) (t p : ℕ) (k : e.kind ≡ 51) (w : e.own ≡ t) where
+module _ (b v : List ℕ) (e : Entry) (t p : ℕ) (k : (octet_of e.kind) ≡ 51) (w : e.own ≡ t) where
   pub message_start : start_at e v p ≡ p
   message_start = sym (start_message e v p k)
 
-  no_members : (eqb e.kind 16 || eqb e.kind 17) ≡ false
+  no_members : (eqb (octet_of e.kind) 16 || eqb (octet_of e.kind) 17) ≡ false
   no_members = rw k refl
 
   message_type : (i : ℕ) → below_at b e v p i ≡ t

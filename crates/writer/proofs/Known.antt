@@ -16,8 +16,8 @@ use Rattle.table.specs.Passes.{Passes}
 use Rattle.records.specs.Entries.{unpacked, tag_count, Entered, Filled}
 use Rattle.records.specs.declared.entry.Entry.{Entry}
 use Rattle.records.proofs.Promises.{entered_tags}
+use Rattle.checker.proofs.Ready.{Ready}
 use Rattle.writer.specs.Known.{record_in, Known}
-use Rattle.writer.specs.Ready.{Ready}
 use Rattle.writer.proofs.Frames.{Tagged}
 
 module _ (b : List ℕ) (e : Entry) (r : Record) (x : Entered b e r) where
@@ -44,5 +44,5 @@ passes_tagged b T n p t e =
     test (is_choice (T t).body) (λ f. f) λ f.
     test (ltb t n) (λ h. absurd (p.tagged t (ltb-true t n h) (missing e f))) λ h. ap (λ (r : Record). is_choice r.body) (p.no_more t (ltb-false t n h))
 
-pub ready_tagged : (b index v : List ℕ) → Ready b index v → Tagged (table_in b)
-ready_tagged b index v R = passes_tagged b (table_in b) (count_in b) R.passes
+pub ready_tagged : {b index : List ℕ} → Ready b index → Tagged (table_in b)
+ready_tagged {b} R = passes_tagged b (table_in b) (count_in b) R.passes

@@ -1,6 +1,6 @@
 -- A leaf by its kind: where its own part ends, its contents octets, and the octets of v that they come from.
 -- Assumes nothing.
-use mathlib.Core.Bool.{Bool, true, false, not, true≢false}
+use mathlib.Core.Bool.{Bool, true, false, not}
 use mathlib.Core.List.{List, [], ◌∷◌}
 use mathlib.Core.Path.{◌≡◌, refl, sym, ap, ◌∙◌}
 use Prim.Native.Nat.{ℕ, suc, ◌+◌, ◌-◌, ◌*◌, ◌/◌, ◌%◌, ◌^◌, ◌≤◌, ◌<◌}
@@ -13,7 +13,7 @@ use lib.ListN.{length, get_or, take, drop, set, length-drop}
 use lib.Seq.{sets, length-take-le, get_or-take}
 use Rattle.std.specs.Prelude.{Option, Some, None}
 use Rattle.octets.specs.Tests.{if}
-use Rattle.octets.proofs.Tests.{test, at}
+use Rattle.octets.proofs.Tests.{test}
 use Rattle.octets.specs.Numbers.{two}
 use Rattle.octets.specs.Buffers.{filled}
 use Rattle.x690.specs.Integer.{integer_of, fewest_of, eight}
@@ -24,6 +24,9 @@ use Rattle.dates.specs.declared.TimeKind.{TimeKind}
 use Rattle.dates.specs.declared.TimeKind.TheVariants.{Utc, Generalized}
 use Rattle.dates.specs.Calendar.{in_range}
 use Rattle.dates.specs.Own.{time_at}
+use Rattle.kinds.specs.declared.Kind.{Kind}
+use Rattle.kinds.specs.declared.Kind.TheVariants.{Boolean, Integer, BitString, OctetString, Null, Enumerated}
+use Rattle.kinds.specs.Kinds.{octet_of}
 use Rattle.table.specs.Syntax.{constructed}
 use Rattle.table.specs.Reading.{body_at}
 use Rattle.table.specs.Fields.{constructed_of, time_kind}
@@ -33,7 +36,7 @@ use Rattle.coding.specs.Judging.{octets_for, spare_in}
 use Rattle.writer.specs.Nodes.{fixed_end, boolean_end, string_end, bits_end, time_end, clear_at, own_end, leaf_of}
 use Rattle.writer.specs.Leaves.{MeasuresSome}
 use Rattle.writer.specs.declared.contents.Extent.{Extent}
-use Rattle.writer.proofs.Nodes.{fixed_is, no_built}
+use Rattle.writer.proofs.Nodes.{fixed_is}
 use Rattle.writer.proofs.Reading.{time_at_lem}
 
 none : {X : Type 0} → 0 < 0 → X
@@ -249,31 +252,16 @@ module _ (v : List ℕ) (p : ℕ) where
           shaped (x.0 ∙ sym (own_time_lem k v p ∙ rw (le-ltb (length v) (p + 7) x.1, in_range_lem true f) refl)) (λ _. omega arith)
           (s ∙ sym (rw (leaf_time k v p) (length_time k (time_at v p)))) (rw s (time_few k))
 
--- the last simple kinds, those of times, if it is none of the others
-abbrev LastLeaf : ℕ → Type 0
-LastLeaf k = constructed_of k ≡ false → eqb k 1 ≡ false → eqb k 2 ≡ false → eqb k 3 ≡ false → eqb k 4 ≡ false → eqb k 5 ≡ false → eqb k 10 ≡ false
-    → k ≡ time_number (time_kind k)
-
-last_leaf : (k : ℕ) → LastLeaf k
-unfolding body_at constructed time_kind
-last_leaf k =
-    at k 23 LastLeaf (λ _ _ _ _ _ _ _. refl) λ e₂₃.
-    at k 24 LastLeaf (λ _ _ _ _ _ _ _. refl) λ e₂₄ h e₁ e₂ e₃ e₄ e₅ e₁₀.
-    let (e₁₆, e₁₇, e₄₈, e₄₉, e₅₀) = no_built k h in
-    absurd (true≢false (rw (e₁, e₂, e₃, e₄, e₅, e₁₀, e₂₃, e₂₄, e₁₆, e₁₇, e₄₈, e₄₉) at h))
-
-pub time_left : (k : ℕ) → constructed_of k ≡ false → (k ≡ 1 → ⊥) → (k ≡ 2 → ⊥) → (k ≡ 3 → ⊥) → (k ≡ 4 → ⊥) → (k ≡ 5 → ⊥) → (k ≡ 10 → ⊥)
-    → (i : TimeKind) → i ≡ time_kind k → k ≡ time_number i
-time_left k g e₁ e₂ e₃ e₄ e₅ e₁₀ i ei =
-    rw ei (last_leaf k g (ne_eqb k 1 e₁) (ne_eqb k 2 e₂) (ne_eqb k 3 e₃) (ne_eqb k 4 e₄) (ne_eqb k 5 e₅) (ne_eqb k 10 e₁₀))
-
-pub same_kind : (k : ℕ) (v : List ℕ) (p i : ℕ) (r : Option Extent) → k ≡ i → MeasuresSome i v p r → MeasuresSome k v p r
-same_kind k v p i r e m = rw e m
+-- a kind that is not constructed, and none of the first six, is one of the two times
+pub time_left : (k : Kind) (i : TimeKind) → constructed_of (octet_of k) ≡ false → (k ≡ Boolean → ⊥) → (k ≡ Integer → ⊥) → (k ≡ BitString → ⊥)
+    → (k ≡ OctetString → ⊥) → (k ≡ Null → ⊥) → (k ≡ Enumerated → ⊥) → i ≡ time_kind (octet_of k) → octet_of k ≡ time_number i
+unfolding time_kind body_at constructed
+time_left k i h b₁ b₂ b₃ b₄ b₅ b₁₀ e = grind arith
 
 -- a leaf that is shaped, by its kind: where it ends, and its contents octets
-module _ (k : ℕ) (v : List ℕ) (p : ℕ) (h : 0 < own_end k v p) where
-  module _ (e : k ≡ 1) where
-    own_boolean_lem : own_end k v p ≡ boolean_end v p
+module _ (k : Kind) (v : List ℕ) (p : ℕ) (h : 0 < own_end (octet_of k) v p) where
+  module _ (e : k ≡ Boolean) where
+    own_boolean_lem : own_end (octet_of k) v p ≡ boolean_end v p
     unfolding own_end
     own_boolean_lem = rw e refl
 
@@ -287,39 +275,39 @@ module _ (k : ℕ) (v : List ℕ) (p : ℕ) (h : 0 < own_end k v p) where
     pub boolean_there : p < length v
     boolean_there = boolean_is.1
 
-    pub boolean_end_lem : p + 1 ≡ own_end k v p
+    pub boolean_end_lem : p + 1 ≡ own_end (octet_of k) v p
     boolean_end_lem = sym (own_boolean_lem ∙ boolean_is.0)
 
-    encode_boolean : encode (leaf_of k v p) ≡ truth (eqb (get_or v p 0) 1) ∷ []
+    encode_boolean : encode (leaf_of (octet_of k) v p) ≡ truth (eqb (get_or v p 0) 1) ∷ []
     unfolding encode leaf_of
     encode_boolean = rw e refl
 
-    pub boolean_size : 1 ≡ length (encode (leaf_of k v p))
+    pub boolean_size : 1 ≡ length (encode (leaf_of (octet_of k) v p))
     boolean_size = sym (ap length encode_boolean)
 
-    pub encode_true : get_or v p 0 ≡ 1 → encode (leaf_of k v p) ≡ 255 ∷ []
+    pub encode_true : get_or v p 0 ≡ 1 → encode (leaf_of (octet_of k) v p) ≡ 255 ∷ []
     encode_true g = encode_boolean ∙ rw (eq-eqb (get_or v p 0) 1 g) refl
 
-    pub encode_false : (get_or v p 0 ≡ 1 → ⊥) → encode (leaf_of k v p) ≡ 0 ∷ []
+    pub encode_false : (get_or v p 0 ≡ 1 → ⊥) → encode (leaf_of (octet_of k) v p) ≡ 0 ∷ []
     encode_false g = encode_boolean ∙ rw (ne_eqb (get_or v p 0) 1 g) refl
 
-  module _ (e : k ≡ 2) where
-    own_integer_lem : own_end k v p ≡ fixed_end v (p + 8)
+  module _ (e : k ≡ Integer) where
+    own_integer_lem : own_end (octet_of k) v p ≡ fixed_end v (p + 8)
     unfolding own_end
     own_integer_lem = rw e refl
 
     pub integer_there : p + 8 ≤ length v
     integer_there = (fixed_is v (p + 8) (rw own_integer_lem at h)).1
 
-    pub integer_end : p + 8 ≡ own_end k v p
+    pub integer_end : p + 8 ≡ own_end (octet_of k) v p
     integer_end = sym (own_integer_lem ∙ (fixed_is v (p + 8) (rw own_integer_lem at h)).0)
 
-    pub encode_integer : (z y : ℤ) → y ≡ z → z ≡ integer_of (take 8 (drop p v)) → fewest_of y ≡ encode (leaf_of k v p)
+    pub encode_integer : (z y : ℤ) → y ≡ z → z ≡ integer_of (take 8 (drop p v)) → fewest_of y ≡ encode (leaf_of (octet_of k) v p)
     unfolding encode leaf_of
     encode_integer z y f g = ap fewest_of (f ∙ g) ∙ rw e refl
 
-  module _ (e : k ≡ 3) where
-    own_bits_lem : own_end k v p ≡ bits_end v p
+  module _ (e : k ≡ BitString) where
+    own_bits_lem : own_end (octet_of k) v p ≡ bits_end v p
     unfolding own_end
     own_bits_lem = rw e refl
 
@@ -334,33 +322,33 @@ module _ (k : ℕ) (v : List ℕ) (p : ℕ) (h : 0 < own_end k v p) where
     pub bits_there : p + 2 ≤ length v
     bits_there = let w = bits_is.1 in omega arith
 
-    encode_bits : encode (leaf_of k v p) ≡ spare_in (two v p) ∷ take (octets_for (two v p)) (drop (p + 2) v)
+    encode_bits : encode (leaf_of (octet_of k) v p) ≡ spare_in (two v p) ∷ take (octets_for (two v p)) (drop (p + 2) v)
     unfolding encode leaf_of
     encode_bits = rw e refl
 
-    pub bits_size : (n : ℕ) → n ≡ two v p → (n + 7) / 8 + 1 ≡ length (encode (leaf_of k v p))
-    bits_size n en = let w = bits_is.1 in rw (encode_bits, part_length v (p + 2) (octets_for (two v p)) w, en) (omega arith)
+    pub bits_long : length (encode (leaf_of (octet_of k) v p)) ≡ octets_for (two v p) + 1
+    bits_long = let w = bits_is.1 in rw (encode_bits, part_length v (p + 2) (octets_for (two v p)) w) (omega arith)
 
-    module _ (n : ℕ) (en : n ≡ length (encode (leaf_of k v p))) where
-      pub bits_one : n ≡ octets_for (two v p) + 1
-      bits_one = en ∙ sym (bits_size (two v p) refl)
+    module _ (n : ℕ) (en : n ≡ length (encode (leaf_of (octet_of k) v p))) where
+      bits_one : n ≡ octets_for (two v p) + 1
+      bits_one = en ∙ bits_long
 
       pub bits_within : p + 2 + (n - 1) ≤ length v
       bits_within = let w = bits_one in omega (arith, bits_is.1)
 
-      pub bits_end_lem : p + 2 + (n - 1) ≡ own_end k v p
+      pub bits_end_lem : p + 2 + (n - 1) ≡ own_end (octet_of k) v p
       bits_end_lem = let w = bits_one in let q : p + 2 + (n - 1) ≡ p + 2 + octets_for (two v p) = omega arith in q ∙ sym (own_bits_lem ∙ bits_is.0)
 
       pub bits_put : (x to : ℕ) (first last : List ℕ) → x ≡ two v p → last ≡ sets (set first to (8 * (n - 1) - x)) (to + 1) (take (n - 1) (drop (p + 2) v))
-          → last ≡ sets first to (encode (leaf_of k v p))
+          → last ≡ sets first to (encode (leaf_of (octet_of k) v p))
       bits_put x to first last ex d =
           let w = bits_one in
           let q : n - 1 ≡ octets_for (two v p) = omega arith in
           let z : to + 1 ≡ suc to = omega arith in
           rw encode_bits (rw (ex, q, z) at d)
 
-  module _ (e : k ≡ 4) where
-    own_string_lem : own_end k v p ≡ string_end v p
+  module _ (e : k ≡ OctetString) where
+    own_string_lem : own_end (octet_of k) v p ≡ string_end v p
     unfolding own_end
     own_string_lem = rw e refl
 
@@ -374,57 +362,57 @@ module _ (k : ℕ) (v : List ℕ) (p : ℕ) (h : 0 < own_end k v p) where
     pub string_there : p + 2 ≤ length v
     string_there = let w = string_is.1 in omega arith
 
-    encode_string : encode (leaf_of k v p) ≡ take (two v p) (drop (p + 2) v)
+    encode_string : encode (leaf_of (octet_of k) v p) ≡ take (two v p) (drop (p + 2) v)
     unfolding encode leaf_of
     encode_string = rw e refl
 
-    pub string_size : (n : ℕ) → n ≡ two v p → n ≡ length (encode (leaf_of k v p))
+    pub string_size : (n : ℕ) → n ≡ two v p → n ≡ length (encode (leaf_of (octet_of k) v p))
     string_size n en = en ∙ sym (ap length encode_string ∙ part_length v (p + 2) (two v p) string_is.1)
 
-    module _ (n : ℕ) (en : n ≡ length (encode (leaf_of k v p))) where
+    module _ (n : ℕ) (en : n ≡ length (encode (leaf_of (octet_of k) v p))) where
       string_long : n ≡ two v p
       string_long = en ∙ sym (string_size (two v p) refl)
 
       pub string_within : p + 2 + n ≤ length v
       string_within = let w = string_long in omega (arith, string_is.1)
 
-      pub string_end_lem : p + 2 + n ≡ own_end k v p
+      pub string_end_lem : p + 2 + n ≡ own_end (octet_of k) v p
       string_end_lem = rw string_long (sym (own_string_lem ∙ string_is.0))
 
-      pub string_put : take n (drop (p + 2) v) ≡ encode (leaf_of k v p)
+      pub string_put : take n (drop (p + 2) v) ≡ encode (leaf_of (octet_of k) v p)
       string_put = rw string_long (sym encode_string)
 
-  module _ (e : k ≡ 5) where
-    pub null_end : p ≡ own_end k v p
+  module _ (e : k ≡ Null) where
+    pub null_end : p ≡ own_end (octet_of k) v p
     unfolding own_end
     null_end = rw e refl
 
-    encode_null : encode (leaf_of k v p) ≡ []
+    encode_null : encode (leaf_of (octet_of k) v p) ≡ []
     unfolding encode leaf_of
     encode_null = rw e refl
 
-    pub null_size : 0 ≡ length (encode (leaf_of k v p))
+    pub null_size : 0 ≡ length (encode (leaf_of (octet_of k) v p))
     null_size = sym (ap length encode_null)
 
-    pub null_put : (to : ℕ) (first : List ℕ) → first ≡ sets first to (encode (leaf_of k v p))
+    pub null_put : (to : ℕ) (first : List ℕ) → first ≡ sets first to (encode (leaf_of (octet_of k) v p))
     null_put to first = rw encode_null refl
 
-  module _ (e : k ≡ 10) where
-    own_number : own_end k v p ≡ fixed_end v (p + 2)
+  module _ (e : k ≡ Enumerated) where
+    own_number : own_end (octet_of k) v p ≡ fixed_end v (p + 2)
     unfolding own_end
     own_number = rw e refl
 
     pub number_there : p + 2 ≤ length v
     number_there = (fixed_is v (p + 2) (rw own_number at h)).1
 
-    pub number_end : p + 2 ≡ own_end k v p
+    pub number_end : p + 2 ≡ own_end (octet_of k) v p
     number_end = sym (own_number ∙ (fixed_is v (p + 2) (rw own_number at h)).0)
 
-    pub encode_number : (n : ℕ) → n ≡ two v p → fewest_of (pos n) ≡ encode (leaf_of k v p)
+    pub encode_number : (n : ℕ) → n ≡ two v p → fewest_of (pos n) ≡ encode (leaf_of (octet_of k) v p)
     unfolding encode leaf_of
     encode_number n en = rw (e, en) refl
 
-  module _ (i : TimeKind) (ei : k ≡ time_number i) where
+  module _ (i : TimeKind) (ei : octet_of k ≡ time_number i) where
     time_shaped : 0 < time_end i v p
     time_shaped = rw (ei, own_time_lem i v p) at h
 
@@ -434,14 +422,14 @@ module _ (k : ℕ) (v : List ℕ) (p : ℕ) (h : 0 < own_end k v p) where
     pub time_ranged : in_range i (time_at v p) ≡ true
     time_ranged = (time_in_lem i v p time_shaped).2
 
-    pub time_end_lem : p + 7 ≡ own_end k v p
+    pub time_end_lem : p + 7 ≡ own_end (octet_of k) v p
     time_end_lem = sym (time_in_lem i v p time_shaped).0 ∙ sym (rw ei (own_time_lem i v p))
 
-    pub encode_time : time_digits i (time_at v p) ≡ encode (leaf_of k v p)
+    pub encode_time : time_digits i (time_at v p) ≡ encode (leaf_of (octet_of k) v p)
     unfolding encode
     encode_time = rw (ei, leaf_time i v p) refl
 
-    pub time_size_lem : (n : ℕ) → n ≡ time_size i → (n ≡ length (encode (leaf_of k v p))) × (n < 65536)
+    pub time_size_lem : (n : ℕ) → n ≡ time_size i → (n ≡ length (encode (leaf_of (octet_of k) v p))) × (n < 65536)
     time_size_lem n en = (en ∙ sym (length_time i (time_at v p)) ∙ ap length encode_time, rw en (time_few i))
 
 -- eight octets that are all there

@@ -16,6 +16,7 @@ pub mod Known
 pub mod Finding
 pub mod Judging
 pub mod Below
+pub mod Awaited
 pub mod Simple
 pub mod Notes
 pub mod Members

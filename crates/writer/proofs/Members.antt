@@ -1,34 +1,39 @@
 -- What the judge says of all that stands in a node, and what it notes: the loop over a row, one law for each way through it.
 -- Assumes nothing.
-use mathlib.Core.Bool.{Bool, true, false, not}
+use mathlib.Core.Bool.{Bool, true, false}
 use mathlib.Core.List.{List, [], ◌∷◌}
 use mathlib.Core.Path.{◌≡◌, refl, sym, ap, ◌∙◌}
 use Prim.Native.Nat.{ℕ, ◌+◌, ◌-◌, ◌≤◌, ◌<◌}
 use native.Mathlib.Omega.{arith}
-use borrow.Author.Tests.{not-true, ltb-true, ltb-false}
+use borrow.Author.Tests.{not-true, not-false, ltb-true, ltb-false}
 use lib.Dec.{ltb}
 use lib.ListN.{length, get_or, drop}
 use Rattle.std.specs.Prelude.{Option, Some, None, Ok}
 use Rattle.octets.specs.Numbers.{if_below}
 use Rattle.octets.proofs.Tests.{test}
+use Rattle.kinds.specs.Kinds.{octet_of}
+use Rattle.checker.proofs.Ready.{Ready, ready_by}
 use Rattle.coding.specs.declared.JudgingCause.{JudgingCause}
 use Rattle.coding.specs.declared.JudgingCause.TheVariants.{ValueShape}
 use Rattle.table.specs.Syntax.{Record, Table}
+use Rattle.table.specs.Octets.{kind}
 use Rattle.table.specs.Fields.{constructed_of}
 use Rattle.table.specs.Reading.{table_in, count_in}
 use Rattle.records.specs.Entries.{unpacked}
 use Rattle.records.specs.declared.entry.Entry.{Entry}
+use Rattle.records.proofs.Promises.{entered_kind}
+use Rattle.coding.specs.Value.{Value}
 use Rattle.coding.specs.Judging.{judge_value}
-use Rattle.writer.specs.Nodes.{IsMarked, Marked}
+use Rattle.writer.specs.Nodes.{Marked}
 use Rattle.writer.specs.Frames.{cap, framed}
 use Rattle.writer.specs.Known.{record_in, Known}
 use Rattle.writer.specs.Standing.{start_at, count_at, below_at, row_from, row_in, Standing}
-use Rattle.writer.specs.Ready.{Ready}
 use Rattle.writer.specs.Rows.{judge_row, row_form, contents_form}
 use Rattle.writer.specs.declared.judge.Judged.{Judged}
 use Rattle.writer.specs.Told.{Ruling, fit, unfit, told}
 use Rattle.writer.specs.Notes.{Noted, NotedRow, Noting}
 use Rattle.writer.proofs.Frames.{cap_below}
+use Rattle.checker.specs.declared.passed.Passed.{Passed}
 use Rattle.writer.proofs.Known.{known, known_record, ready_tagged}
 use Rattle.writer.proofs.Simple.{known_simple}
 use Rattle.writer.proofs.Standing.{row_there, row_missing, row_over, row_all}
@@ -61,6 +66,9 @@ module _ (b v : List ℕ) (e : Entry) (p n : ℕ) (first : List ℕ) where
         going = rw (← row_all b e v p (count_at e v p)) (going_begin (start_at e v p) first (λ m. NotedRow (table_in b) v m n (row_in b e v p) (start_at e v p)));
       })
 
+  pub row_small : {y : Ruling} {last : List ℕ} → RowSaid b v e p n first y last → (d : Judged) → y ≡ Ok d → d.size < 8194
+  row_small {y} S d z = told_small _ v _ y d.end d.size S.0 z
+
   module _ (i at total : ℕ) (l : List ℕ) (G : GoingOn b v e p n first i at total l) where
     pub members_end_lem : count_at e v p ≤ i → RowSaid b v e p n first (fit at total) l
     members_end_lem h =
@@ -87,7 +95,7 @@ none_below n k e =
 
 -- the i-th is there, of type t
 pub record Member (b index v : List ℕ) (e : Entry) (p n : ℕ) (first : List ℕ) : Type 0 where
-  pub ready : Ready b index v
+  pub ready : Ready b index
   pub stands : Standing b v e p
   pub i : ℕ
   pub at : ℕ
@@ -99,23 +107,24 @@ pub record Member (b index v : List ℕ) (e : Entry) (p n : ℕ) (first : List �
   pub is : t ≡ below_at b e v p i
   pub there : t < 256
 
--- as the code finds it: x is the entry, c counts what stands before it
-abbrev pub member : {b index v : List ℕ} {e x : Entry} {p n i at total c : ℕ} {first notes : List ℕ} → Ready b index v → Standing b v e p
-    → GoingOn b v e p n first i at total notes → x ≡ e → c ≡ count_at x v p → i < c → (t : ℕ) → ◌≡◌ {A = Option ℕ} (Some t) (if_below 256 (below_at b x v p i))
-    → Member b index v e p n first
-member {b} {index} {v} {e} {x} {p} {n} {i} {at} {total} {c} {first} {notes} R S G ex ec h t et =
+-- as the code finds it: y is the entry, c counts what stands before it
+abbrev pub member : (x : Passed) {v : List ℕ} {e y : Entry} {p n i at total c : ℕ} {first notes : List ℕ} → Standing x.octets.now v e p
+    → GoingOn x.octets.now v e p n first i at total notes → y ≡ e → c ≡ count_at y v p → i < c
+    → (t : ℕ) → ◌≡◌ {A = Option ℕ} (Some t) (if_below 256 (below_at x.octets.now y v p i))
+    → Member x.octets.now x.index.now v e p n first
+member x {v} {e} {y} {p} {n} {i} {at} {total} {c} {first} {notes} S G ey ec h t et =
     record {
-      ready = R;
+      ready = ready_by x;
       stands = S;
       i = i;
       at = at;
       total = total;
       notes = notes;
       so_far = G;
-      one = rw ex at (rw ec at h);
+      one = rw ey at (rw ec at h);
       t = t;
-      is = (some_below 256 (below_at b e v p i) t (rw ex at et)).0;
-      there = (some_below 256 (below_at b e v p i) t (rw ex at et)).1;
+      is = (some_below 256 (below_at x.octets.now e v p i) t (rw ey at et)).0;
+      there = (some_below 256 (below_at x.octets.now e v p i) t (rw ey at et)).1;
     }
 
 module _ {b index v : List ℕ} {e : Entry} {p n : ℕ} {first : List ℕ} (m : Member b index v e p n first) where
@@ -138,12 +147,14 @@ module _ {b index v : List ℕ} {e : Entry} {p n : ℕ} {first : List ℕ} (m : 
   pub member_there : m.t < count_in b
   member_there = rw m.is (m.stands.types m.i m.one (rw (← m.is) m.there))
 
+  -- it is refused where it begins
+  member_stopped : (f : Value → List ℕ) (c : JudgingCause) → unfit c m.at ≡ told f v (judge_value T n m.t (drop m.at v))
+      → RowSaid b v e p n first (unfit c m.at) m.notes
+  member_stopped f c x =
+      (row_refused T n _ v m.at m.total m.t Rest left_now f (unfit c m.at) c m.at x refl, going_stopped going_now c m.at)
+
   pub member_unmarked : (r : Bool) → Marked v m.at r → r ≡ false → RowSaid b v e p n first (unfit ValueShape m.at) m.notes
-  member_unmarked r k f =
-      let x = value_shape T m.t v m.at m.so_far.within n (λ _. []) (k.no f) in (
-        row_refused T n _ v m.at m.total m.t Rest left_now (λ _. []) (unfit ValueShape m.at) ValueShape m.at x refl,
-        going_stopped going_now ValueShape m.at,
-      )
+  member_unmarked r k f = member_stopped (λ _. []) ValueShape (value_shape T m.t v m.at m.so_far.within n (λ _. []) (k.no f))
 
   -- what is said of it
   abbrev pub Said : Ruling → List ℕ → Type 0
@@ -166,25 +177,34 @@ module _ {b index v : List ℕ} {e : Entry} {p n : ℕ} {first : List ℕ} (m : 
     pub entry_known : Known b x
     entry_known = rw ex (known b index m.ready.filled m.t member_there)
 
-    pub entry_simple : x.simple ≡ not (constructed_of x.kind)
-    entry_simple = known_simple b x entry_known
-
     entry_record : record_in b x ≡ T m.t
     entry_record = rw ex (known_record b index m.ready.filled m.t member_there)
 
-    pub leaf_said : IsMarked v m.at → (s : Bool) → s ≡ not (constructed_of (get_or v (m.at + 2) 0)) → s ≡ true → (y : Ruling)
+    pub member_not_awaited : (get_or v (m.at + 2) 0 ≡ octet_of x.kind → ⊥) → (c : JudgingCause)
+        → ((T : Table) (t : ℕ) → (get_or v (m.at + 2) 0 ≡ kind (T t).body → ⊥) → unfit c m.at ≡ told (contents_form T (n - 1) (T t).body) v (judge_value T n t (drop m.at v)))
+        → RowSaid b v e p n first (unfit c m.at) m.notes
+    member_not_awaited f c tells =
+        let k : octet_of x.kind ≡ kind (T m.t).body = entered_kind entry_known.entered ∙ ap (λ (r : Record). kind r.body) entry_record in
+        member_stopped _ c (tells T m.t (λ z. f (z ∙ sym k)))
+
+    pub entry_leaf : x.simple ≡ true → constructed_of (octet_of x.kind) ≡ false
+    entry_leaf f = not-true _ (sym (known_simple b x entry_known) ∙ f)
+
+    pub entry_built : x.simple ≡ false → constructed_of (octet_of x.kind) ≡ true
+    entry_built f = not-false _ (sym (known_simple b x entry_known) ∙ f)
+
+    pub leaf_said : get_or v (m.at + 2) 0 ≡ octet_of x.kind → x.simple ≡ true → (y : Ruling)
         → ((T : Table) (t : ℕ) → (T t).body ≡ (record_in b x).body → y ≡ told (contents_form T (n - 1) (T t).body) v (judge_value T n t (drop m.at v)))
         → Said y m.notes
-    leaf_said M s es f y tells =
-        let k : constructed_of (get_or v (m.at + 2) 0) ≡ false = not-true _ (sym es ∙ f) in
+    leaf_said o f y tells =
         let g = tells T m.t (ap (λ (r : Record). r.body) (sym entry_record)) in
-        (g, leaf_noting T v n m.t m.at m.so_far.within k _ y g m.notes)
+        (g, leaf_noting T v n m.t m.at m.so_far.within (rw o (entry_leaf f)) _ y g m.notes)
 
     pub member_done : (d : Judged) (last : List ℕ) → Said (Ok d) last → (k total : ℕ) → k ≡ framed (record_in b x).tags d.size → total ≡ cap (m.total + k)
         → GoingOn b v e p n first (m.i + 1) d.end total last
     member_done d last S k total ek et =
         let g : k ≡ framed (T m.t).tags d.size = ek ∙ ap (λ (r : Record). framed r.tags d.size) entry_record in
-        let z = value_came T n m.t v m.at (ready_tagged b index v m.ready) m.so_far.within _ d.end d.size k S.0 refl g in
+        let z = value_came T n m.t v m.at (ready_tagged m.ready) m.so_far.within _ d.end d.size k S.0 refl g in
         record {
           within = z.within;
           small = rw et (cap_below (m.total + k));

@@ -19,6 +19,9 @@ use Rattle.table.specs.Syntax.{Boolean, Integer, BitString, OctetString, Null, E
 use Rattle.table.specs.Octets.{kind}
 use Rattle.table.specs.Reading.{every_at, body_at}
 use Rattle.table.specs.Fields.{constructed_of}
+use Rattle.kinds.specs.declared.Kind.{Kind}
+use Rattle.kinds.specs.Kinds.{octet_of}
+use Rattle.kinds.proofs.Same.{no_octet}
 use Rattle.coding.specs.Judging.{a_leaf, leaf_kind, node_kind, agrees}
 use Rattle.writer.specs.Nodes.{fixed_end, members_end, own_end, end_at, leaf_of, node_of, node_at}
 use Rattle.writer.proofs.Forms.{agreed_kind}
@@ -57,6 +60,19 @@ node_kind_lem k v p =
     at k 49 (NodeKindAt v p) (λ h. refl) λ e₄₉.
     at k 50 (NodeKindAt v p) (λ h. refl) λ e₅₀ h.
     none (rw (e₁, e₂, e₃, e₄, e₅, e₁₀, e₂₃, e₂₄, e₁₆, e₁₇, e₄₈, e₄₉, e₅₀) at h)
+
+-- an octet that no kind has is no node's
+pub no_kind : (k : ℕ) (v : List ℕ) (p : ℕ) → ((j : Kind) → octet_of j ≡ k → ⊥) → own_end k v p ≡ 0
+unfolding own_end
+no_kind k v p h =
+    let (e₁, e₂, e₃, e₄, e₅, e₁₀, e₂₃, e₂₄, e₁₆, e₁₇, e₄₈, e₄₉, e₅₀) = no_octet k h in
+    rw (e₁, e₂, e₃, e₄, e₅, e₁₀, e₂₃, e₂₄, e₁₆, e₁₇, e₄₈, e₄₉, e₅₀) refl
+
+pub no_kind_constructed : (k : ℕ) → ((j : Kind) → octet_of j ≡ k → ⊥) → constructed_of k ≡ true
+unfolding body_at every_at constructed
+no_kind_constructed k h =
+    let (e₁, e₂, e₃, e₄, e₅, e₁₀, e₂₃, e₂₄, e₁₆, e₁₇, e₄₈, e₄₉, e₅₀) = no_octet k h in
+    rw (e₁, e₂, e₃, e₄, e₅, e₁₀, e₂₃, e₂₄, e₁₆, e₁₇, e₄₈, e₄₉) refl
 
 -- a simple kind is none that is constructed
 other_kind_lem : (k j : ℕ) → constructed_of k ≡ false → constructed_of j ≡ true → eqb k j ≡ false

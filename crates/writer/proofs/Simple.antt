@@ -7,14 +7,15 @@ use mathlib.Core.Path.{◌≡◌, sym, ap, ◌∙◌}
 use Prim.Native.Nat.{ℕ, ◌+◌, ◌-◌, ◌≤◌, ◌<◌}
 use native.Mathlib.Omega.{arith}
 use lib.ListN.{length, get_or, drop}
+use Rattle.kinds.specs.Kinds.{octet_of}
 use Rattle.coding.specs.declared.JudgingCause.TheVariants.{ValueShape, IllTyped, ValueLevel}
 use Rattle.table.specs.Syntax.{Table}
 use Rattle.table.specs.Fields.{constructed_of}
 use Rattle.table.proofs.Promises.{constructed_of_lem}
 use Rattle.records.specs.declared.entry.Entry.{Entry}
 use Rattle.coding.specs.Form.{encode}
-use Rattle.coding.specs.Judging.{agrees, judge_value}
-use Rattle.writer.specs.Nodes.{own_end, end_at, leaf_of, node_of, IsMarked}
+use Rattle.coding.specs.Judging.{a_leaf, agrees, judge_value}
+use Rattle.writer.specs.Nodes.{own_end, end_at, leaf_of, node_of, node_at, IsMarked}
 use Rattle.writer.specs.Leaves.{MeasuresSome}
 use Rattle.writer.specs.Frames.{cap}
 use Rattle.writer.specs.Known.{record_in, Known}
@@ -25,42 +26,43 @@ use Rattle.writer.proofs.Nodes.{leaf_node}
 use Rattle.writer.proofs.Below.{value_shape, value_level, value_ill, value_leaf}
 
 -- what an entry says of its kind
-pub known_simple : (b : List ℕ) (e : Entry) → Known b e → e.simple ≡ not (constructed_of e.kind)
-known_simple b e K = K.entered.simple ∙ ap not (constructed_of_lem b e.kind e.own)
+pub known_simple : (b : List ℕ) (e : Entry) → Known b e → e.simple ≡ not (constructed_of (octet_of e.kind))
+known_simple b e K = K.entered.simple ∙ ap not (constructed_of_lem b (octet_of e.kind) e.own)
 
-module _ (b : List ℕ) (e : Entry) (v : List ℕ) (at n : ℕ) (M : IsMarked v at) (T : Table) (t : ℕ) (same : (T t).body ≡ (record_in b e).body) where
+module _ (b : List ℕ) (e : Entry) (v : List ℕ) (at n : ℕ) (M : IsMarked v at) (o : octet_of e.kind ≡ get_or v (at + 2) 0) (T : Table) (t : ℕ) (same : (T t).body ≡ (record_in b e).body) where
   abbrev Tells : Ruling
   Tells = told (contents_form T (n - 1) (T t).body) v (judge_value T n t (drop at v))
 
   within : at ≤ length v
   within = let h = M.0 in omega arith
 
-  pub leaf_shape : own_end (get_or v (at + 2) 0) v (at + 3) ≡ 0 → unfit ValueShape at ≡ Tells
-  leaf_shape h = value_shape T t v at within n _ (M.1 ∙ h)
+  own_is : end_at v at ≡ own_end (octet_of e.kind) v (at + 3)
+  own_is = rw o M.1
 
-  module _ (x : Extent) (m : MeasuresSome (get_or v (at + 2) 0) v (at + 3) (Some x)) where
-    pub own_there : 0 < own_end (get_or v (at + 2) 0) v (at + 3)
+  pub leaf_shape : own_end (octet_of e.kind) v (at + 3) ≡ 0 → unfit ValueShape at ≡ Tells
+  leaf_shape h = value_shape T t v at within n _ (own_is ∙ h)
+
+  module _ (x : Extent) (m : MeasuresSome (octet_of e.kind) v (at + 3) (Some x)) where
+    own_there : 0 < own_end (octet_of e.kind) v (at + 3)
     own_there = m.1 (omega arith)
 
-    end_is : x.end ≡ end_at v at
-    end_is = m.0.ends ∙ sym M.1
-
     is_shaped : 0 < end_at v at
-    is_shaped = rw M.1 own_there
+    is_shaped = rw own_is own_there
 
     pub leaf_level : n ≡ 0 → unfit ValueLevel at ≡ Tells
     leaf_level z = value_level T t v at within n is_shaped _ z
 
-    module _ (z : n ≡ 0 → ⊥) (r : Bool) (er : r ≡ agrees (record_in b e).body (node_of (get_or v (at + 2) 0) v (at + 3))) where
-      agreed : (w : Bool) → r ≡ w → agrees (T t).body (node_of (get_or v (at + 2) 0) v (at + 3)) ≡ w
-      agreed w f = rw same (sym er ∙ f)
+    module _ (z : n ≡ 0 → ⊥) (r : Bool) (er : r ≡ agrees (record_in b e).body (node_of (octet_of e.kind) v (at + 3))) where
+      agreed : (w : Bool) → r ≡ w → agrees (T t).body (node_at v at) ≡ w
+      agreed w f = rw (same, ← o) (sym er ∙ f)
 
       pub leaf_ill : r ≡ false → unfit IllTyped at ≡ Tells
       leaf_ill f = value_ill T t v at within n is_shaped z _ (agreed false f)
 
-      pub leaf_done : r ≡ true → constructed_of (get_or v (at + 2) 0) ≡ false → (size : ℕ) → size ≡ cap (0 + x.size) → fit x.end size ≡ Tells
+      pub leaf_done : r ≡ true → constructed_of (octet_of e.kind) ≡ false → (size : ℕ) → size ≡ cap (0 + x.size) → fit x.end size ≡ Tells
       leaf_done f k size es =
+          let p = at + 3 in
           let l = m.0.sized own_there in
-          let q : 0 + x.size ≡ length (encode (leaf_of (get_or v (at + 2) 0) v (at + 3))) = omega arith in
-          rw end_is (value_leaf T t v at within n is_shaped z (agreed true f) (leaf_of (get_or v (at + 2) 0) v (at + 3)) size (leaf_node (get_or v (at + 2) 0) v
-          (at + 3) k) (es ∙ ap cap q))
+          let q : 0 + x.size ≡ length (encode (leaf_of (octet_of e.kind) v p)) = omega arith in
+          let y : node_at v at ≡ a_leaf (leaf_of (octet_of e.kind) v p) = rw (← o) (leaf_node (octet_of e.kind) v p k) in
+          rw (m.0.ends ∙ sym own_is) (value_leaf T t v at within n is_shaped z (agreed true f) _ size y (es ∙ ap cap q))

@@ -10,6 +10,7 @@ use lib.Dec.{eqb}
 use lib.ListN.{get_or}
 use Rattle.octets.proofs.Tests.{test, or_by}
 use Rattle.octets.specs.Numbers.{two}
+use Rattle.kinds.specs.Kinds.{octet_of}
 use Rattle.records.specs.declared.entry.Entry.{Entry}
 use Rattle.writer.specs.Standing.{start_at, count_at, parts_of, place_of, part_of, below_at, row_from}
 
@@ -17,26 +18,26 @@ module _ (e : Entry) (v : List ℕ) (p : ℕ) where
   pub start_past : p ≤ start_at e v p
   unfolding start_at
   start_past =
-      test (eqb e.kind 51) (λ a. rw a (omega arith)) λ a.
-      test (eqb e.kind 16 || eqb e.kind 17) (λ c. rw (a, c) (omega arith)) λ c.
-      test (eqb e.kind 50) (λ d. rw (a, c, d) (omega arith)) λ d. rw (a, c, d) (omega arith)
+      test (eqb (octet_of e.kind) 51) (λ a. rw a (omega arith)) λ a.
+      test (eqb (octet_of e.kind) 16 || eqb (octet_of e.kind) 17) (λ c. rw (a, c) (omega arith)) λ c.
+      test (eqb (octet_of e.kind) 50) (λ d. rw (a, c, d) (omega arith)) λ d. rw (a, c, d) (omega arith)
 
-  pub start_message : e.kind ≡ 51 → p ≡ start_at e v p
+  pub start_message : (octet_of e.kind) ≡ 51 → p ≡ start_at e v p
   unfolding start_at
-  start_message h = rw (eq-eqb e.kind 51 h) refl
+  start_message h = rw (eq-eqb (octet_of e.kind) 51 h) refl
 
   -- members
-  module _ (t : Bool) (et : t ≡ (eqb e.kind 16 || eqb e.kind 17)) (h : t ≡ true) where
-    has : (eqb e.kind 16 || eqb e.kind 17) ≡ true
+  module _ (t : Bool) (et : t ≡ (eqb (octet_of e.kind) 16 || eqb (octet_of e.kind) 17)) (h : t ≡ true) where
+    has : (eqb (octet_of e.kind) 16 || eqb (octet_of e.kind) 17) ≡ true
     has = sym et ∙ h
 
-    pub no_message : e.kind ≡ 51 → ⊥
-    no_message f = or_by (eqb e.kind 16) (eqb e.kind 17) has (λ a. let z = eqb-true e.kind 16 a in omega arith) λ a. let z = eqb-true e.kind 17 a
+    pub no_message : (octet_of e.kind) ≡ 51 → ⊥
+    no_message f = or_by (eqb (octet_of e.kind) 16) (eqb (octet_of e.kind) 17) has (λ a. let z = eqb-true (octet_of e.kind) 16 a in omega arith) λ a. let z = eqb-true (octet_of e.kind) 17 a
         in omega arith
 
     pub start_members : p + 1 + get_or v p 0 ≡ start_at e v p
     unfolding start_at
-    start_members = rw (ne_eqb e.kind 51 no_message, has) refl
+    start_members = rw (ne_eqb (octet_of e.kind) 51 no_message, has) refl
 
     pub count_members : get_or v p 0 ≡ count_at e v p
     unfolding count_at
@@ -54,49 +55,49 @@ module _ (e : Entry) (v : List ℕ) (p : ℕ) where
     unfolding below_at
     below_member b i f = rw (has, eq-eqb (get_or v (p + 1 + i) 0) 1 f, ← part_members i) refl
 
-  module _ (t : Bool) (et : t ≡ (eqb e.kind 16 || eqb e.kind 17)) (h : t ≡ false) where
-    has_not : (eqb e.kind 16 || eqb e.kind 17) ≡ false
+  module _ (t : Bool) (et : t ≡ (eqb (octet_of e.kind) 16 || eqb (octet_of e.kind) 17)) (h : t ≡ false) where
+    has_not : (eqb (octet_of e.kind) 16 || eqb (octet_of e.kind) 17) ≡ false
     has_not = sym et ∙ h
 
     -- an alternative
-    module _ (f : e.kind ≡ 50) where
+    module _ (f : (octet_of e.kind) ≡ 50) where
       pub start_choice : p + 1 ≡ start_at e v p
       unfolding start_at
-      start_choice = rw (ne_eqb e.kind 51 (λ z. omega arith), has_not, eq-eqb e.kind 50 f) refl
+      start_choice = rw (ne_eqb (octet_of e.kind) 51 (λ z. omega arith), has_not, eq-eqb (octet_of e.kind) 50 f) refl
 
       pub part_choice : (i : ℕ) → get_or v p 0 ≡ part_of e v p i
       unfolding part_of
-      part_choice i = rw (has_not, eq-eqb e.kind 50 f) refl
+      part_choice i = rw (has_not, eq-eqb (octet_of e.kind) 50 f) refl
 
       pub below_choice : (b : List ℕ) (i : ℕ) → get_or b (place_of (parts_of b e) (get_or v p 0)) 0 ≡ below_at b e v p i
       unfolding below_at
-      below_choice b i = rw (has_not, ne_eqb e.kind 51 (λ z. omega arith), ← part_choice i) refl
+      below_choice b i = rw (has_not, ne_eqb (octet_of e.kind) 51 (λ z. omega arith), ← part_choice i) refl
 
-    pub below_message : (b : List ℕ) (i : ℕ) → e.kind ≡ 51 → e.own ≡ below_at b e v p i
+    pub below_message : (b : List ℕ) (i : ℕ) → octet_of e.kind ≡ 51 → e.own ≡ below_at b e v p i
     unfolding below_at
-    below_message b i f = rw (has_not, eq-eqb e.kind 51 f) refl
+    below_message b i f = rw (has_not, eq-eqb (octet_of e.kind) 51 f) refl
 
-    pub count_one : (s : Bool) → s ≡ (eqb e.kind 50 || eqb e.kind 51) → s ≡ true → 1 ≡ count_at e v p
+    pub count_one : (s : Bool) → s ≡ (eqb (octet_of e.kind) 50 || eqb (octet_of e.kind) 51) → s ≡ true → 1 ≡ count_at e v p
     unfolding count_at
     count_one s es f = rw (has_not, sym es ∙ f) refl
 
     -- elements
-    module _ (f : e.kind ≡ 50 → ⊥) (g : e.kind ≡ 51 → ⊥) where
+    module _ (f : (octet_of e.kind) ≡ 50 → ⊥) (g : (octet_of e.kind) ≡ 51 → ⊥) where
       pub start_list : p + 2 ≡ start_at e v p
       unfolding start_at
-      start_list = rw (ne_eqb e.kind 51 g, has_not, ne_eqb e.kind 50 f) refl
+      start_list = rw (ne_eqb (octet_of e.kind) 51 g, has_not, ne_eqb (octet_of e.kind) 50 f) refl
 
       pub count_list : two v p ≡ count_at e v p
       unfolding count_at
-      count_list = rw (has_not, ne_eqb e.kind 50 f, ne_eqb e.kind 51 g) refl
+      count_list = rw (has_not, ne_eqb (octet_of e.kind) 50 f, ne_eqb (octet_of e.kind) 51 g) refl
 
       pub part_list : (i : ℕ) → 0 ≡ part_of e v p i
       unfolding part_of
-      part_list i = rw (has_not, ne_eqb e.kind 50 f) refl
+      part_list i = rw (has_not, ne_eqb (octet_of e.kind) 50 f) refl
 
       pub below_list : (b : List ℕ) (i : ℕ) → get_or b (place_of (parts_of b e) 0) 0 ≡ below_at b e v p i
       unfolding below_at
-      below_list b i = rw (has_not, ne_eqb e.kind 51 g, ← part_list i) refl
+      below_list b i = rw (has_not, ne_eqb (octet_of e.kind) 51 g, ← part_list i) refl
 
 -- the loop over a row: the i-th is there, or it is not
 module _ (b : List ℕ) (e : Entry) (v : List ℕ) (p i n : ℕ) (h : i < n) where

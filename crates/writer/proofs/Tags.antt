@@ -23,6 +23,7 @@ use Rattle.ber.proofs.Headers.{length_one, length_two, length_three, sets_append
 use Rattle.table.specs.Syntax.{Tag, constructed}
 use Rattle.table.specs.Reading.{tags_at}
 use Rattle.table.proofs.Promises.{shaped_classes}
+use Rattle.kinds.specs.Kinds.{octet_of}
 use Rattle.records.specs.Entries.{outermost_code, tag_count, tag_place}
 use Rattle.records.specs.declared.entry.Entry.{Entry}
 use Rattle.records.proofs.Promises.{entered_tags, entered_bit}
@@ -126,7 +127,7 @@ module _ (b : List ℕ) (o : Octets b) (e : Entry) (K : Known b e) where
     unfolding tag_count outermost_code tags_at
     one_tag =
         let z = S.one in
-        test (eqb e.kind 50)
+        test (eqb (octet_of e.kind) 50)
         (λ t. let q : tag_count e ≡ 0 = rw (t, z) refl in absurd (omega (arith, code_is 0 q, S.low)))
         (λ t. rw (t, z) refl)
 

@@ -16,9 +16,6 @@ use Rattle.octets.proofs.Tests.{test}
 use Rattle.octets.specs.Answer.{Answer, got, refused, then, if, none_left}
 use Rattle.octets.proofs.Answer.{run, refused≢got, then_refused}
 use Rattle.table.specs.Syntax.{Table}
-use Rattle.table.specs.Reading.{table_in}
-use Rattle.table.specs.Passes.{Passes}
-use Rattle.records.specs.Entries.{Filled}
 use Rattle.coding.specs.Value.{Value}
 use Rattle.coding.specs.Form.{form_at}
 use Rattle.coding.specs.Judging.{need, read_node, judge_value, judge_whole}
@@ -30,14 +27,10 @@ use Rattle.coding.specs.declared.Refusal.{Refusal}
 use Rattle.coding.specs.declared.Refusal.TheVariants.{Table as of_table, Value as of_value}
 use Rattle.coding.proofs.Checked.{Says}
 use Rattle.writer.specs.Frames.{cap}
-use Rattle.writer.specs.Ready.{Ready}
 use Rattle.writer.specs.Told.{Ruling, fit, unfit, told, written, IsDone}
 use Rattle.writer.specs.Putting.{Fits, IsPut}
 use Rattle.writer.specs.declared.put.Placed.{Placed}
 use Rattle.writer.proofs.Judging.{done, no}
-
-pub ready : (b index v : List ℕ) (n : ℕ) → Filled b index n → Passes b (table_in b) n → length v ≤ 16384 → Ready b index v
-ready b index v n F P l = let q = F.count in record { filled = rw q at F; passes = rw q at P; little = l }
 
 none_nil : (w : List ℕ) → length w ≡ 0 → none_left w ≡ true
 unfolding none_left

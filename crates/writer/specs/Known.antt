@@ -4,6 +4,7 @@ use Rattle.std.specs.Prelude.{true, List, ◌≡◌, ℕ, ◌-◌, ◌*◌, ◌<
 use Rattle.table.specs.Syntax.{Tag, Record}
 use Rattle.table.specs.Octets.{record_shaped}
 use Rattle.table.specs.Reading.{tags_at, body_at}
+use Rattle.kinds.specs.Kinds.{octet_of}
 use Rattle.records.specs.Entries.{tag_count, tag_place, Entered}
 use Rattle.records.specs.declared.entry.Entry.{Entry}
 
@@ -12,7 +13,7 @@ abbrev pub tags_from : List ℕ → Entry → ℕ → List Tag
 tags_from b e j = tags_at b (tag_place e j) (tag_count e - j)
 
 abbrev pub record_in : List ℕ → Entry → Record
-record_in b e = record { tags = tags_at b (e.own - 3 * tag_count e) (tag_count e); body = body_at b e.kind e.own }
+record_in b e = record { tags = tags_at b (e.own - 3 * tag_count e) (tag_count e); body = body_at b (octet_of e.kind) e.own }
 
 -- the entry is of that record, which is shaped
 pub record Known (b : List ℕ) (e : Entry) : Type 0 where

@@ -5,7 +5,6 @@ pub mod Leaves
 pub mod Frames
 pub mod Known
 pub mod Standing
-pub mod Ready
 pub mod Rows
 pub mod Told
 pub mod Notes

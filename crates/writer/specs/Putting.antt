@@ -7,7 +7,6 @@ use Rattle.octets.specs.Answer.{Answer}
 use Rattle.table.specs.Reading.{table_in}
 use Rattle.records.specs.declared.entry.Entry.{Entry}
 use Rattle.writer.specs.Standing.{start_at, row_in, Standing}
-use Rattle.writer.specs.Ready.{Ready}
 use Rattle.writer.specs.Rows.{judge_row, row_form}
 use Rattle.writer.specs.Told.{written, ended, IsDone}
 use Rattle.writer.specs.Notes.{NotedRow}
@@ -26,15 +25,14 @@ pub record IsPut {A : Type 0} (f : A → List ℕ) (W : Answer JudgingCause A) (
   pub buffer : last ≡ sets first to (written f W)
 
 -- what stands in a node before the entry e is accepted with some levels left, is noted, and fits
-pub record Puts (b index v notes : List ℕ) (e : Entry) (p to : ℕ) (buf : List ℕ) : Type 0 where
+pub record Puts (b v notes : List ℕ) (e : Entry) (p to : ℕ) (buf : List ℕ) : Type 0 where
   pub level : ℕ
-  pub ready : Ready b index v
+  pub little : length v ≤ 16384
   pub stands : Standing b v e p
   pub fits : Fits (row_form (table_in b) level (row_in b e v p)) (judge_row (table_in b) level (row_in b e v p) (drop (start_at e v p) v)) to buf
   pub noted : NotedRow (table_in b) v notes level (row_in b e v p) (start_at e v p)
-  pub long : length notes ≡ 4096
 
 -- and was put there
-abbrev pub PutBy : {b index v notes : List ℕ} {e : Entry} {p to : ℕ} {buf : List ℕ} → Puts b index v notes e p to buf → List ℕ → Placed → Type 0
-PutBy {b} {index} {v} {notes} {e} {p} {to} {buf} x last r =
+abbrev pub PutBy : {b v notes : List ℕ} {e : Entry} {p to : ℕ} {buf : List ℕ} → Puts b v notes e p to buf → List ℕ → Placed → Type 0
+PutBy {b} {v} {notes} {e} {p} {to} {buf} x last r =
     IsPut (row_form (table_in b) x.level (row_in b e v p)) (judge_row (table_in b) x.level (row_in b e v p) (drop (start_at e v p) v)) v to buf last r

@@ -9,6 +9,7 @@ ghost use Rattle.dates.specs.Own.{time_at};
 ghost use Rattle.table.specs.Fields.{constructed_of};
 ghost use Rattle.coding.specs.Value.{time_number};
 ghost use Rattle.coding.specs.Form.{encode};
+ghost use Rattle.kinds.specs.Kinds.{octet_of};
 ghost use Rattle.writer.specs.Nodes.{own_end, leaf_of, clear_at};
 ghost use Rattle.writer.specs.Leaves.{MeasuresSome};
 
@@ -16,7 +17,7 @@ use crate::node::fixed_end;
 use clock::{calendar, own};
 use dates::{DateTime, TimeKind};
 use digits::time;
-use kinds::{BIT_STRING, BOOLEAN, ENUMERATED, INTEGER, NULL, OCTET_STRING, time_kind};
+use kinds::Kind;
 use simple::{bit_string, integer};
 
 // The number that two octets at p stand for.
@@ -150,38 +151,38 @@ fn time(v: &[u8], p: usize, kind: TimeKind) -> Option<Extent>
 }
 
 // The leaf of a kind, if it is shaped.
-pub fn measure(kind: u8, v: &[u8], p: usize) -> Option<Extent>
+pub fn measure(kind: Kind, v: &[u8], p: usize) -> Option<Extent>
     requires { (p < 20000)
-        × (constructed_of kind ≡ false) }
-    ensures { MeasuresSome kind v.now p result }
+        × (constructed_of (octet_of kind) ≡ false) }
+    ensures { MeasuresSome (octet_of kind) v.now p result }
 {
     match kind {
-        BOOLEAN => boolean(v, p),
-        INTEGER => integer(v, p),
-        BIT_STRING => bits(v, p),
-        OCTET_STRING => string(v, p),
-        NULL => Some(Extent { end: p, size: 0 }),
-        ENUMERATED => enumerated(v, p),
-        _ => time(v, p, time_kind(kind)),
+        Kind::Boolean => boolean(v, p),
+        Kind::Integer => integer(v, p),
+        Kind::BitString => bits(v, p),
+        Kind::OctetString => string(v, p),
+        Kind::Null => Some(Extent { end: p, size: 0 }),
+        Kind::Enumerated => enumerated(v, p),
+        _ => time(v, p, kind.time()),
     }
 }
 
 // How many contents octets the shaped leaf of a kind has.
-pub fn size(kind: u8, v: &[u8], p: usize) -> usize
+pub fn size(kind: Kind, v: &[u8], p: usize) -> usize
     requires { (p < 20000)
-        × (constructed_of kind ≡ false)
-        × (0 < own_end kind v.now p) }
-    ensures { (result ≡ length (encode (leaf_of kind v.now p)))
+        × (constructed_of (octet_of kind) ≡ false)
+        × (0 < own_end (octet_of kind) v.now p) }
+    ensures { (result ≡ length (encode (leaf_of (octet_of kind) v.now p)))
         × (result < 65536) }
 {
     match kind {
-        BOOLEAN => 1,
-        INTEGER => integer::size(eight(v, p)),
-        BIT_STRING => (two(v, p) + 7) / 8 + 1,
-        OCTET_STRING => two(v, p),
-        NULL => 0,
-        ENUMERATED => number_size(two(v, p)),
-        _ => time::size(time_kind(kind)),
+        Kind::Boolean => 1,
+        Kind::Integer => integer::size(eight(v, p)),
+        Kind::BitString => (two(v, p) + 7) / 8 + 1,
+        Kind::OctetString => two(v, p),
+        Kind::Null => 0,
+        Kind::Enumerated => number_size(two(v, p)),
+        _ => time::size(kind.time()),
     }
 }
 
@@ -220,25 +221,25 @@ fn put_time(kind: TimeKind, size: usize, v: &[u8], p: usize, buf: &mut [u8], to:
 }
 
 // Puts the contents octets, `size` of them, of the shaped leaf of a kind; where its own part ends.
-pub fn put(kind: u8, size: usize, v: &[u8], p: usize, buf: &mut [u8], to: usize) -> usize
+pub fn put(kind: Kind, size: usize, v: &[u8], p: usize, buf: &mut [u8], to: usize) -> usize
     requires { (p < 20000)
-        × (constructed_of kind ≡ false)
-        × (0 < own_end kind v.now p)
-        × (size ≡ length (encode (leaf_of kind v.now p)))
+        × (constructed_of (octet_of kind) ≡ false)
+        × (0 < own_end (octet_of kind) v.now p)
+        × (size ≡ length (encode (leaf_of (octet_of kind) v.now p)))
         × (to + size ≤ length buf.old) }
-    ensures { (result ≡ own_end kind v.now p)
-        × (buf.new ≡ sets buf.old to (encode (leaf_of kind v.now p))) }
+    ensures { (result ≡ own_end (octet_of kind) v.now p)
+        × (buf.new ≡ sets buf.old to (encode (leaf_of (octet_of kind) v.now p))) }
 {
     match kind {
-        BOOLEAN => {
+        Kind::Boolean => {
             buf[to] = if v[p] == 1 { 255 } else { 0 };
             p + 1
         }
-        INTEGER => {
+        Kind::Integer => {
             put_integer(eight(v, p), size, buf, to);
             p + 8
         }
-        BIT_STRING => {
+        Kind::BitString => {
             let count = two(v, p);
             let n = size - 1;
             buf[to] = (8 * n - count) as u8;
@@ -246,18 +247,18 @@ pub fn put(kind: u8, size: usize, v: &[u8], p: usize, buf: &mut [u8], to: usize)
             put_part(v, start, n, buf, to + 1);
             start + n
         }
-        OCTET_STRING => {
+        Kind::OctetString => {
             let start = p + 2;
             put_part(v, start, size, buf, to);
             start + size
         }
-        NULL => p,
-        ENUMERATED => {
+        Kind::Null => p,
+        Kind::Enumerated => {
             put_integer(two(v, p) as i64, size, buf, to);
             p + 2
         }
         _ => {
-            put_time(time_kind(kind), size, v, p, buf, to);
+            put_time(kind.time(), size, v, p, buf, to);
             p + 7
         }
     }

@@ -11,37 +11,26 @@ mod put;
 
 ghost use Rattle.std.specs.Prelude.{◌≡◌, ◌≤◌, length};
 ghost use Rattle.table.specs.Reading.{table_in};
-ghost use Rattle.table.specs.Passes.{Passes};
-ghost use Rattle.records.specs.Entries.{Filled};
 ghost use Rattle.coding.specs.Calls.{write_outcome, whole_write};
 
+use checker::passed::Passed;
 use coding::{LONGEST_MESSAGE, LONGEST_VALUE, Refusal, TableCause, ValueCause};
 
-// Writes a value of type t, by a table of n records that passed.
-fn write_passed(
-    table: &[u8],
-    index: &[u64; 128],
-    n: usize,
-    t: usize,
-    value: &[u8],
-    buf: &mut [u8],
-) -> Result<usize, Refusal>
-    requires { Filled table.now index.now n
-        × Passes table.now (table_in table.now) n
-        × (length buf.old ≤ 8192) }
-    ensures { let x = write_outcome (table_in table.now) n t value.now buf.old in
+// Writes a value of type t, by a table that passed.
+fn write_passed(table: &Passed, t: usize, value: &[u8], buf: &mut [u8]) -> Result<usize, Refusal>
+    requires { length buf.old ≤ 8192 }
+    ensures { let x = write_outcome (table_in table.now.octets.now) table.now.count t value.now buf.old in
         (result ≡ x.answer)
         × (buf.new ≡ x.buffer) }
 {
-    if n <= t {
+    if table.count <= t {
         return Err(Refusal::Table(TableCause::Unknown));
     }
     if LONGEST_VALUE < value.len() {
         return Err(Refusal::Value(ValueCause::ValueShape(0)));
     }
-    // ones and not zeros, which would be cleared by a call of memset, four times as dear as these stores
-    let mut notes = [1u16; 4096];
-    let judged = judge::judge(table, index, t, value, &mut notes)?;
+    let mut notes = [0u16; 4096];
+    let judged = judge::judge(table, t, value, &mut notes)?;
     let size = judged.size;
     if judged.end < value.len() {
         return Err(Refusal::Value(ValueCause::ValueShape(judged.end)));
@@ -49,7 +38,7 @@ fn write_passed(
     if buf.len() < size {
         return Err(Refusal::Value(ValueCause::MessageRoom));
     }
-    put::put(table, index, t, value, &notes, buf);
+    put::put(table, t, value, &notes, buf);
     Ok(size)
 }
 
@@ -60,8 +49,7 @@ pub fn write(table: &[u8], t: usize, value: &[u8], buf: &mut [u8]) -> Result<usi
         × (buf.new ≡ x.buffer) }
 {
     let mut index = [0u64; 128];
-    let checked = checker::check_into(table, &mut index);
-    checked.verdict?;
+    let table = Passed::check(table, &mut index)?;
     let room = buf.len().min(LONGEST_MESSAGE);
-    write_passed(table, &index, checked.count, t, value, &mut buf[..room])
+    write_passed(&table, t, value, &mut buf[..room])
 }

@@ -9,7 +9,7 @@ ghost use Rattle.writer.specs.Nodes.{members_end, fixed_end};
 
 use crate::{contents, node};
 use coding::LONGEST_VALUE;
-use kinds::{constructed, has_members, is_list};
+use kinds::Kind;
 use octets::octet;
 
 // Whether n octets from p on are 0. They are added up, with no way out of the loop, so that many are taken at a time.
@@ -65,18 +65,18 @@ pub fn is_lone(v: &[u8]) -> bool
     if !node::marked(v, 0) {
         return false;
     }
-    let kind = v[2];
-    if !constructed(kind as usize) {
+    let Some(kind) = Kind::of(v[2]) else {
+        return false;
+    };
+    if !kind.constructed() {
         let Some(leaf) = contents::measure(kind, v, 3) else {
             return false;
         };
         return leaf.end == v.len();
     }
-    if has_members(kind) {
-        return no_member(v, 3);
+    match kind {
+        Kind::Sequence | Kind::Set => no_member(v, 3),
+        Kind::SequenceOf | Kind::SetOf => no_element(v, 3),
+        _ => false,
     }
-    if is_list(kind) {
-        return no_element(v, 3);
-    }
-    false
 }

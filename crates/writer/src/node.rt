@@ -6,11 +6,13 @@ ghost use Rattle.octets.specs.Numbers.{unless_zero, if_below};
 ghost use Rattle.table.specs.Fields.{constructed_of};
 ghost use Rattle.table.specs.Reading.{every_at, members_at};
 ghost use Rattle.coding.specs.Judging.{flags, agreeing, agrees as Judging·agrees};
-ghost use Rattle.writer.specs.Nodes.{members_end, fixed_end, own_end, node_of, Marked};
-ghost use Rattle.writer.specs.Known.{record_in, Known};
+ghost use Rattle.kinds.specs.Kinds.{octet_of};
+ghost use Rattle.writer.specs.Nodes.{members_end, own_end, node_of, Marked};
+ghost use Rattle.writer.specs.Known.{record_in};
 ghost use Rattle.writer.specs.Standing.{start_at, count_at, parts_of, below_at, Standing};
 
-use kinds::{CHOICE, MESSAGE, has_members, holds_one, is_list};
+use crate::contents;
+use kinds::Kind;
 use octets::octet;
 use records::entry::{Entry, Span, optional, part, parts};
 
@@ -64,21 +66,17 @@ pub fn fixed_end(v: &[u8], e: usize) -> Option<usize>
 
 // Where the own part of a node of a constructed kind ends, if it is shaped.
 #[tactic(auto, unfolding(crate::specs::Nodes::own_end, crate::specs::Nodes::members_end, crate::specs::Nodes::fixed_end))]
-pub fn own_end(v: &[u8], kind: u8, p: usize) -> Option<usize>
+pub fn own_end(v: &[u8], kind: Kind, p: usize) -> Option<usize>
     requires { (p < 20000)
-        × (constructed_of kind ≡ true) }
-    ensures { result ≡ unless_zero (own_end kind v.now p) }
+        × (constructed_of (octet_of kind) ≡ true) }
+    ensures { result ≡ unless_zero (own_end (octet_of kind) v.now p) }
 {
-    if has_members(kind) {
-        return members_end(v, p);
+    match kind {
+        Kind::Sequence | Kind::Set => members_end(v, p),
+        Kind::SequenceOf | Kind::SetOf => fixed_end(v, p + 2),
+        Kind::Choice => fixed_end(v, p + 1),
+        _ => None,
     }
-    if is_list(kind) {
-        return fixed_end(v, p + 2);
-    }
-    if kind == CHOICE {
-        return fixed_end(v, p + 1);
-    }
-    None
 }
 
 // Whether the mandatory ones of the n members from p on are present; which are present says v, from q on.
@@ -98,29 +96,24 @@ fn is_complete(table: &[u8], p: usize, n: usize, v: &[u8], q: usize) -> bool
     true
 }
 
-// Whether the shaped node of a constructed kind agrees with a record.
-pub fn agrees(table: &[u8], e: Entry, v: &[u8], kind: u8, p: usize) -> bool
+// Whether the shaped node of a record's kind, which is constructed, agrees with the record.
+pub fn agrees(table: &[u8], e: Entry, v: &[u8], p: usize) -> bool
     requires { (p < 20000)
-        × (constructed_of kind ≡ true)
-        × (0 < own_end kind v.now p)
-        × Known table.now e }
-    ensures { result ≡ Judging·agrees (record_in table.now e).body (node_of kind v.now p) }
+        × (constructed_of (octet_of e.kind) ≡ true)
+        × (0 < own_end (octet_of e.kind) v.now p) }
+    ensures { result ≡ Judging·agrees (record_in table.now e).body (node_of (octet_of e.kind) v.now p) }
 {
-    if kind != e.kind {
-        return false;
-    }
     let s = parts(table, e);
-    let count = s.count;
-    if has_members(kind) {
-        if v[p] as usize != count {
-            return false;
+    match e.kind {
+        Kind::Sequence | Kind::Set => {
+            if v[p] as usize != s.count {
+                return false;
+            }
+            is_complete(table, s.first, s.count, v, p + 1)
         }
-        return is_complete(table, s.first, count, v, p + 1);
+        Kind::Choice => (v[p] as usize) < s.count,
+        _ => true,
     }
-    if kind == CHOICE {
-        return (v[p] as usize) < count;
-    }
-    true
 }
 
 // Where the first value begins that stands in a node.
@@ -129,16 +122,12 @@ pub fn start(e: Entry, v: &[u8], p: usize) -> usize
     requires { start_at e v.now p ≤ length v.now }
     ensures { result ≡ start_at e v.now p }
 {
-    if e.kind == MESSAGE {
-        return p;
+    match e.kind {
+        Kind::Message => p,
+        Kind::Sequence | Kind::Set => p + 1 + v[p] as usize,
+        Kind::Choice => p + 1,
+        _ => p + 2,
     }
-    if has_members(e.kind) {
-        return p + 1 + v[p] as usize;
-    }
-    if e.kind == CHOICE {
-        return p + 1;
-    }
-    p + 2
 }
 
 // How many values stand in it, at most.
@@ -148,16 +137,15 @@ pub fn count(e: Entry, v: &[u8], p: usize) -> usize
     ensures { (result ≡ count_at e v.now p)
         × (result < 65536) }
 {
-    if has_members(e.kind) {
-        return v[p] as usize;
+    match e.kind {
+        Kind::Sequence | Kind::Set => v[p] as usize,
+        Kind::Choice | Kind::Message => 1,
+        _ => contents::two(v, p),
     }
-    if holds_one(e.kind) {
-        return 1;
-    }
-    crate::contents::two(v, p)
 }
 
-// The record number of the i-th of them, where s are the parts of e; none for a member that is not present.
+// The record number of the i-th of them, where s are the parts of e; none for a member that is not present, or a type
+// that no table has.
 #[tactic(auto, unfolding(crate::specs::Standing::start_at, crate::specs::Standing::count_at, crate::specs::Standing::part_of, crate::specs::Standing::below_at))]
 pub fn below(table: &[u8], e: Entry, s: Span, v: &[u8], p: usize, i: usize) -> Option<usize>
     requires { (s ≡ parts_of table.now e)
@@ -165,16 +153,16 @@ pub fn below(table: &[u8], e: Entry, s: Span, v: &[u8], p: usize, i: usize) -> O
         × (i < count_at e v.now p) }
     ensures { result ≡ if_below 256 (below_at table.now e v.now p i) }
 {
-    if has_members(e.kind) {
+    if e.kind.has_members() {
         if v[p + 1 + i] != 1 {
             return None;
         }
         return Some(part(table, s, i));
     }
-    if e.kind == CHOICE {
+    if e.kind == Kind::Choice {
         return Some(part(table, s, v[p] as usize));
     }
-    if e.kind == MESSAGE {
+    if e.kind == Kind::Message {
         let t = e.own as usize;
         return (t < 256).then_some(t);
     }

@@ -1,14 +1,14 @@
 // Puts the form of a value that was accepted into a buffer, front to back, by the notes of the judge (X.690, 8.1; 8.9 to 8.14).
-ghost use Rattle.std.specs.Prelude.{◌≡◌, [], ◌∷◌, ◌<◌, length};
+ghost use Rattle.std.specs.Prelude.{[], ◌∷◌, ◌<◌, ◌≤◌, length};
 ghost use Rattle.table.specs.Reading.{table_in, count_in};
 ghost use Rattle.records.specs.Entries.{unpacked};
 ghost use Rattle.coding.specs.Form.{form_at};
 ghost use Rattle.coding.specs.Judging.{judge_value};
-ghost use Rattle.writer.specs.Ready.{Ready};
 ghost use Rattle.writer.specs.Notes.{NotedRow};
 ghost use Rattle.writer.specs.Putting.{Fits, IsPut, Puts, PutBy};
 
 use crate::{contents, frame, node};
+use checker::passed::Passed;
 use records::entry::{parts, unpack, whole};
 
 // Where values end, and where what was put of them ends in the buffer.
@@ -20,8 +20,7 @@ pub struct Placed {
 
 // The values in w, whose node has its own part at p.
 fn put_members(
-    table: &[u8],
-    index: &[u64; 128],
+    table: &Passed,
     w: u64,
     v: &[u8],
     p: usize,
@@ -29,17 +28,19 @@ fn put_members(
     buf: &mut [u8],
     to: usize,
 ) -> Placed
-    requires { Puts table.now index.now v.now notes.now (unpacked w) p to buf.old }
-    ensures { (x : Puts table.now index.now v.now notes.now (unpacked w) p to buf.old) →
-        PutBy x buf.new result }
+    requires { Puts table.now.octets.now v.now notes.now (unpacked w) p to buf.old }
+    ensures { (x : Puts table.now.octets.now v.now notes.now (unpacked w) p to buf.old) → PutBy x buf.new result }
 {
+    // Taken out once: the loop then has them in registers.
+    let octets = table.octets;
+    let index = table.index;
     let e = unpack(w);
-    let s = parts(table, e);
+    let s = parts(octets, e);
     let n = node::count(e, v, p);
     let mut at = node::start(e, v, p);
     let mut next = to;
     for i in 0..n {
-        let Some(t) = node::below(table, e, s, v, p, i) else {
+        let Some(t) = node::below(octets, e, s, v, p, i) else {
             continue;
         };
         let x = index[t];
@@ -50,12 +51,12 @@ fn put_members(
         } else {
             notes[at / 4] as usize
         };
-        next = frame::put(table, x, size, buf, next);
+        next = frame::put(octets, x, size, buf, next);
         if r.simple {
             at = contents::put(r.kind, size, v, q, buf, next);
             next += size;
         } else {
-            let y = put_members(table, index, x, v, q, notes, buf, next);
+            let y = put_members(table, x, v, q, notes, buf, next);
             at = y.end;
             next = y.to;
         }
@@ -64,23 +65,16 @@ fn put_members(
 }
 
 // A whole value of type t.
-pub fn put(
-    table: &[u8],
-    index: &[u64; 128],
-    t: usize,
-    v: &[u8],
-    notes: &[u16; 4096],
-    buf: &mut [u8],
-) -> Placed
-    requires { let T = table_in table.now in
-        Ready table.now index.now v.now
-        × (t < count_in table.now)
-        × (length notes.now ≡ 4096)
+pub fn put(table: &Passed, t: usize, v: &[u8], notes: &[u16; 4096], buf: &mut [u8]) -> Placed
+    requires { let b = table.now.octets.now in
+        let T = table_in b in
+        (length v.now ≤ 16384)
+        × (t < count_in b)
         × NotedRow T v.now notes.now 24 (t ∷ []) 0
         × Fits (form_at T 24 t) (judge_value T 24 t v.now) 0 buf.old }
-    ensures { let T = table_in table.now in
+    ensures { let T = table_in table.now.octets.now in
         let o = v.now in
         IsPut (form_at T 24 t) (judge_value T 24 t o) o 0 buf.old buf.new result }
 {
-    put_members(table, index, whole(t as u16), v, 0, notes, buf, 0)
+    put_members(table, whole(t as u16), v, 0, notes, buf, 0)
 }

@@ -20,13 +20,13 @@ loop-flags-preserved c = (
 pub returns-then-is_none : goal.returns-then-is_none
 unfolding is_flagged
 returns-then-is_none c =
-    let f = lowest_over (λ t. not (is_flagged c.round-more.new.flags t)) c.args.n _ c.find-lowest.ensures.ran (λ x b q k. (search rules, λ h. search (rules, tests))) in
+    let f = lowest_over (λ t. not (is_flagged c.round-more.new.flags t)) c.args.w.now.count _ c.find-lowest.ensures.ran (λ x b q k. (search rules, λ h. search (rules, tests))) in
     let n : c.find-lowest.result ≡ None = search rules in
-    sym n ∙ f ∙ ap (if_below c.args.n) (lowest_full _ _ (filled_beyond c.requires) _ _ (zeros 128) (raised_on _ c.loop-flags.invariant.1 c.round-more.ensures.raised) (sym n ∙ f))
+    sym n ∙ f ∙ ap (if_below c.args.w.now.count) (lowest_full _ _ (filled_beyond c.args.w.now.filled) _ _ (zeros 128) (raised_on _ c.loop-flags.invariant.1 c.round-more.ensures.raised) (sym n ∙ f))
 
 pub returns-then-not-more : goal.returns-then-not-more
 unfolding is_flagged
 returns-then-not-more c =
-    lowest_over (λ t. not (is_flagged c.round-more.new.flags t)) c.args.n _ c.find-lowest.ensures.ran (λ x b q k. (search rules, λ h. search (rules, tests)))
-    ∙ ap (if_below c.args.n) (lowest_closed _ _ (filled_beyond c.requires) _ _ (zeros 128) (raised_on _ c.loop-flags.invariant.1 c.round-more.ensures.raised)
+    lowest_over (λ t. not (is_flagged c.round-more.new.flags t)) c.args.w.now.count _ c.find-lowest.ensures.ran (λ x b q k. (search rules, λ h. search (rules, tests)))
+    ∙ ap (if_below c.args.w.now.count) (lowest_closed _ _ (filled_beyond c.args.w.now.filled) _ _ (zeros 128) (raised_on _ c.loop-flags.invariant.1 c.round-more.ensures.raised)
     (looked_closed _ _ c.round-more.ensures c.if-not-more.true))

@@ -6,4 +6,4 @@ use Rattle.checker.proofs.Marks.{From}
 use Rattle.checker.proofs.finite.round.Given as goal
 
 abbrev pub invariant-loop-t : goal.invariant-loop-t
-invariant-loop-t l = (length l.flags ≡ 128) × Looked (table_in l.table) (From l.t l.n) l.initial.flags l.more l.flags
+invariant-loop-t l = (length l.flags ≡ 128) × Looked (table_in l.w.table.now) (From l.t l.w.count) l.initial.flags l.more l.flags

@@ -2,6 +2,8 @@
 use Rattle.std.proofs.Common.{◌∙◌, sym}
 use borrow.Author.Tests.{not-true}
 use Rattle.table.proofs.Decided.{sharing_is}
+use Rattle.kinds.specs.declared.Kind.TheVariants.{Sequence}
+use Rattle.kinds.proofs.Same.{is_kind, not_kind}
 use Rattle.checker.proofs.Rules.{filled_beyond, entry_at}
 use Rattle.checker.proofs.Shared.{no_sharing, compares, members_two_apart, of_sequence, of_other}
 use Rattle.checker.proofs.first_tags.is_sharing.Goals as goal
@@ -17,14 +19,14 @@ clash_in_a_run-requires c =
     let x = c.args.w.now.filled in
     let (m, h) = c.requires in (
       compares x h c.unpack-e.ensures c.parts-s.ensures c.args.w.now.octets m,
-      members_two_apart x h c.unpack-e.ensures c.parts-s.ensures c.if-e-eq-SEQUENCE.true,
+      members_two_apart x h c.unpack-e.ensures c.parts-s.ensures (is_kind c.unpack-e.result.kind Sequence c.eq.ensures c.if-eq.true),
     )
 
-pub returns-then-e-eq-SEQUENCE : goal.returns-then-e-eq-SEQUENCE
-returns-then-e-eq-SEQUENCE c =
+pub returns-then-eq : goal.returns-then-eq
+returns-then-eq c =
     let x = c.args.w.now.filled in
     let (m, h) = c.requires in
-    sym (sharing_is _ _ (filled_beyond x) _ _ (of_sequence x h c.unpack-e.ensures c.parts-s.ensures c.if-e-eq-SEQUENCE.true c.clash_in_a_run.ensures))
+    sym (sharing_is _ _ (filled_beyond x) _ _ (of_sequence x h c.unpack-e.ensures c.parts-s.ensures (is_kind c.unpack-e.result.kind Sequence c.eq.ensures c.if-eq.true) c.clash_in_a_run.ensures))
 
 pub clash-requires : goal.clash-requires
 clash-requires c =
@@ -36,4 +38,4 @@ pub returns : goal.returns
 returns c =
     let x = c.args.w.now.filled in
     let (m, h) = c.requires in
-    sym (sharing_is _ _ (filled_beyond x) _ _ (of_other x h c.unpack-e.ensures c.parts-s.ensures c.if-e-eq-SEQUENCE.false c.clash.ensures))
+    sym (sharing_is _ _ (filled_beyond x) _ _ (of_other x h c.unpack-e.ensures c.parts-s.ensures (not_kind c.unpack-e.result.kind Sequence c.eq.ensures c.if-eq.false) c.clash.ensures))

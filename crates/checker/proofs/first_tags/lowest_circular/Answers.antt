@@ -11,5 +11,5 @@ pub returns : goal.returns
 returns c =
     let a = c.args in
     let b = a.w.now.table.now in
-    lowest_over (circular (table_in b) (count_in b)) a.n _ c.find.ensures.ran (λ x o q k. (search rules, λ h. search rules))
-    ∙ ap (λ m. if_below a.n (lowest (circular (table_in b) m) a.n)) (sym c.requires)
+    lowest_over (circular (table_in b) (count_in b)) a.w.now.count _ c.find.ensures.ran (λ x o q k. (search rules, λ h. search rules))
+    ∙ ap (λ m. if_below a.w.now.count (lowest (circular (table_in b) m) a.w.now.count)) (sym a.w.now.counted)

@@ -5,4 +5,4 @@ use Rattle.table.specs.Walk.{like}
 use Rattle.checker.proofs.first_tags.stand_ins.Given as goal
 
 abbrev pub invariant-loop-t : goal.invariant-loop-t
-invariant-loop-t l = (length l.nodes ≡ 128) × ((k : ℕ) → k < l.t → get_or l.nodes k 0 ≡ like (table_in l.table) k)
+invariant-loop-t l = (length l.nodes ≡ 128) × ((k : ℕ) → k < l.t → get_or l.nodes k 0 ≡ like (table_in l.w.table.now) k)

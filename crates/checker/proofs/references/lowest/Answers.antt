@@ -10,5 +10,5 @@ pub returns : goal.returns
 unfolding dangling
 returns c =
     let a = c.args in
-    lowest_over (dangling (table_in a.table.now) a.n) a.n _ c.find.ensures.ran
-    (λ x b q k. (search rules, λ h. search (rules, entry_at c.requires x h)))
+    lowest_over (dangling (table_in a.w.now.table.now) a.w.now.count) a.w.now.count _ c.find.ensures.ran
+    (λ x b q k. (search rules, λ h. search (rules, entry_at c.args.w.now.filled x h)))

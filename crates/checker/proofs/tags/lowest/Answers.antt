@@ -9,5 +9,5 @@ use Rattle.checker.proofs.tags.lowest.Goals as goal
 pub returns : goal.returns
 returns c =
     let a = c.args in
-    lowest_over (mistagged (table_in a.table.now)) a.n _ c.find.ensures.ran
-    (λ x b q k. (search rules, λ h. search (rules, entry_at c.requires x h)))
+    lowest_over (mistagged (table_in a.w.now.table.now)) a.w.now.count _ c.find.ensures.ran
+    (λ x b q k. (search rules, λ h. search (rules, entry_at c.args.w.now.filled x h)))

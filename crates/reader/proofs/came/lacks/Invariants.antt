@@ -8,5 +8,5 @@ use Rattle.reader.proofs.came.lacks.Given as goal
 
 abbrev pub invariant-loop-k : goal.invariant-loop-k
 invariant-loop-k l =
-    Lists·any (λ x. l.any || not x.1.optional) (left (held l.table l.w) l.i l.came)
-    ≡ Lists·any (λ x. l.any || not x.1.optional) (left (held l.table l.w) l.k l.came)
+    Lists·any (λ x. l.any || not x.1.optional) (left (held l.table.octets.now l.w) l.i l.came)
+    ≡ Lists·any (λ x. l.any || not x.1.optional) (left (held l.table.octets.now l.w) l.k l.came)

@@ -3,9 +3,9 @@ use Rattle.octets.specs.Answer.{if}
 use Rattle.reader.specs.Placing.{node_of, opening_of}
 use Rattle.reader.proofs.node.begin.Goals as goal
 
-pub returns-then-kind-eq-MESSAGE : goal.returns-then-kind-eq-MESSAGE
+pub returns-then-eq : goal.returns-then-eq
 unfolding node_of opening_of if
-returns-then-kind-eq-MESSAGE c = search rules
+returns-then-eq c = search rules
 
 pub begin_node-requires : goal.begin_node-requires
 unfolding opening_of if

@@ -7,10 +7,10 @@ pub returns-then-has_members : goal.returns-then-has_members
 unfolding noted_in if
 returns-then-has_members c = search rules
 
-pub returns-then-kind-eq-CHOICE : goal.returns-then-kind-eq-CHOICE
+pub returns-then-eq : goal.returns-then-eq
 unfolding noted_in if
-returns-then-kind-eq-CHOICE c = search rules
+returns-then-eq c = search rules
 
-pub returns-else-kind-eq-CHOICE : goal.returns-else-kind-eq-CHOICE
+pub returns-else-eq : goal.returns-else-eq
 unfolding noted_in if
-returns-else-kind-eq-CHOICE c = search rules
+returns-else-eq c = search rules

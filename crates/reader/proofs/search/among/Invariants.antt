@@ -8,7 +8,7 @@ use Rattle.reader.proofs.ItemsWay.{turns_left}
 use Rattle.reader.proofs.search.among.Given as goal
 
 abbrev pub invariant-loop-j : goal.invariant-loop-j
-invariant-loop-j l = record { wide : length l.way ≡ 128; amid : Amid l.table l.code l.way l.t l.depth l.choice l.j }
+invariant-loop-j l = record { wide : length l.way ≡ 128; amid : Amid l.table.octets.now l.code l.way l.t l.depth l.choice l.j }
 
 abbrev pub decreases-loop-j : goal.decreases-loop-j
-decreases-loop-j l = turns_left (table_in l.table) (count_in l.table) l.way l.depth l.choice l.j
+decreases-loop-j l = turns_left (table_in l.table.octets.now) (count_in l.table.octets.now) l.way l.depth l.choice l.j

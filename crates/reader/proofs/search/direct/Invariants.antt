@@ -5,4 +5,6 @@ use Rattle.reader.specs.Sought.{held, direct as Sought·direct}
 use Rattle.reader.proofs.search.direct.Given as goal
 
 abbrev pub invariant-loop-k : goal.invariant-loop-k
-invariant-loop-k l = Sought·direct l.table (held l.table l.w) l.i l.came l.code ≡ Sought·direct l.table (held l.table l.w) l.k l.came l.code
+invariant-loop-k l =
+    Sought·direct l.table.octets.now (held l.table.octets.now l.w) l.i l.came l.code
+    ≡ Sought·direct l.table.octets.now (held l.table.octets.now l.w) l.k l.came l.code

@@ -12,9 +12,7 @@ use Rattle.reader.proofs.set.locate.Given as goal
 abbrev pub invariant-loop-rest : goal.invariant-loop-rest
 invariant-loop-rest l = record {
   low : l.at ≤ length l.m;
-  notes : length l.began ≡ 16;
-  wide : length l.way ≡ 128;
-  spots : (ms : List Member) → held l.table l.w ≡ inside (Set ms) → Spotting (table_in l.table) ms l.indefinite l.m l.began l.at;
+  spots : (ms : List Member) → held l.table.octets.now l.w ≡ inside (Set ms) → Spotting (table_in l.table.octets.now) ms l.indefinite l.m l.began l.at;
 }
 
 abbrev pub decreases-loop-rest : goal.decreases-loop-rest

@@ -9,5 +9,5 @@ use Rattle.reader.proofs.tags.open.Given as goal
 abbrev pub invariant-loop-j : goal.invariant-loop-j
 invariant-loop-j l = record {
   four : length l.notes ≡ 4;
-  «open» : Opening l.table (record_in l.table (unpacked l.w)) l.m l.fn.at l.notes l.at l.from l.end l.j;
+  «open» : Opening l.table.octets.now (record_in l.table.octets.now (unpacked l.w)) l.m l.fn.at l.notes l.at l.from l.end l.j;
 }

@@ -12,4 +12,4 @@ abbrev pub decreases-judge_members : goal.decreases-judge_members
 decreases-judge_members l = 2 * l.level + 1
 
 abbrev pub invariant-judge_members-loop-i : goal.invariant-judge_members-loop-i
-invariant-judge_members-loop-i l = GoingOn l.table l.v (unpacked l.w) l.p l.level l.initial.notes l.i l.at l.total l.notes
+invariant-judge_members-loop-i l = GoingOn l.table.octets.now l.v (unpacked l.w) l.p l.level l.initial.notes l.i l.at l.total l.notes

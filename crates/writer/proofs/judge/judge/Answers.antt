@@ -1,6 +1,7 @@
 -- A message is a row of one value.
 -- Assumes nothing.
 use Rattle.std.proofs.Common.{ap}
+use Rattle.kinds.specs.Kinds.{octet_of}
 use Rattle.records.specs.Entries.{unpacked}
 use Rattle.records.specs.declared.entry.Entry.{Entry}
 use Rattle.writer.proofs.Whole.{whole_stands, whole_said}
@@ -9,16 +10,17 @@ use Rattle.writer.proofs.judge.judge.Goals as goal
 pub judge_members-requires : goal.judge_members-requires
 judge_members-requires c =
     let a = c.args in
-    let q = c.requires in (
+    let q = c.requires in
+    let y = a.table.now in (
       q.0,
-      whole_stands a.table.now a.index.now a.v.now q.0 a.t q.1 (unpacked c.whole.result) (ap (λ (x : Entry). x.kind) c.whole.ensures)
+      whole_stands y.octets.now a.v.now y.filled.few a.t q.1 (unpacked c.whole.result) (ap (λ (x : Entry). octet_of x.kind) c.whole.ensures)
           (ap (λ (x : Entry). x.own) c.whole.ensures),
-      q.2,
     )
 
 pub returns : goal.returns
 returns c =
     let a = c.args in
     let q = c.requires in
-    whole_said a.table.now a.index.now a.v.now q.0 a.t q.1 (unpacked c.whole.result) (ap (λ (x : Entry). x.kind) c.whole.ensures)
+    let y = a.table.now in
+    whole_said y.octets.now a.v.now y.filled.few a.t q.1 (unpacked c.whole.result) (ap (λ (x : Entry). octet_of x.kind) c.whole.ensures)
     (ap (λ (x : Entry). x.own) c.whole.ensures) 24 a.notes.now _ _ c.judge_members.ensures

@@ -1,10 +1,13 @@
 -- No other kind is shaped.
 -- Assumes nothing.
-use Rattle.std.proofs.Common.{refl}
+use Rattle.std.proofs.Common.{refl, ap}
+use Rattle.kinds.proofs.Same.{same_kind, no_members, no_list}
+use Rattle.octets.specs.Numbers.{unless_zero}
 use Rattle.writer.proofs.Nodes.{end_none}
 use Rattle.writer.proofs.node.own_end.Goals as goal
 
-pub returns : goal.returns
-returns c =
+pub returns-in_default : goal.returns-in_default
+returns-in_default c =
     let a = c.args in
-    rw (← end_none a.v.now a.kind a.p c.requires.1 _ c.has_members.ensures c.if-has_members.false _ c.is_list.ensures c.if-is_list.false c.if-kind-eq-CHOICE.false) refl
+    let d = c.in_default in
+    ap unless_zero (end_none a.v.now _ a.p c.requires.1 _ refl (no_members d.not-Sequence d.not-Set) _ refl (no_list d.not-SequenceOf d.not-SetOf) λ e. d.not-Choice (same_kind _ _ e))

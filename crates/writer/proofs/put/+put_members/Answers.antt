@@ -33,7 +33,7 @@ pub size-size-requires : goal.size-size-requires
 size-size-requires t c =
     let a = c.args in
     let l = c.loop-i in
-    let m = member c.requires l.i l.at l.next l.buf (l.invariant.still c.requires) l.invariant.within l.auto.buf c.unpack-e.ensures c.count-n.ensures.0
+    let m = member a.table.now c.requires l.i l.at l.next l.buf (l.invariant.still c.requires) l.invariant.within l.auto.buf c.unpack-e.ensures c.count-n.ensures.0
     c.loop-i-test.true c.in-Some.t c.in-Some.ensures c.unpack-r.ensures in
     ((put_near m).1, put_simple m c.if-r.true, put_own m)
 
@@ -41,15 +41,15 @@ pub bounds-notes-at : goal.bounds-notes-at
 bounds-notes-at t c =
     let a = c.args in
     let l = c.loop-i in
-    let m = member c.requires l.i l.at l.next l.buf (l.invariant.still c.requires) l.invariant.within l.auto.buf c.unpack-e.ensures c.count-n.ensures.0
+    let m = member a.table.now c.requires l.i l.at l.next l.buf (l.invariant.still c.requires) l.invariant.within l.auto.buf c.unpack-e.ensures c.count-n.ensures.0
     c.loop-i-test.true c.in-Some.t c.in-Some.ensures c.unpack-r.ensures in
-    omega (arith, (put_near m).0, c.requires.ready.little)
+    omega (arith, (put_near m).0, c.requires.little)
 
 pub put-next-requires : goal.put-next-requires
 put-next-requires t c =
     let a = c.args in
     let l = c.loop-i in
-    let m = member c.requires l.i l.at l.next l.buf (l.invariant.still c.requires) l.invariant.within l.auto.buf c.unpack-e.ensures c.count-n.ensures.0
+    let m = member a.table.now c.requires l.i l.at l.next l.buf (l.invariant.still c.requires) l.invariant.within l.auto.buf c.unpack-e.ensures c.count-n.ensures.0
     c.loop-i-test.true c.in-Some.t c.in-Some.ensures c.unpack-r.ensures in
     let z : Sized m c.if-r.size =
     elim c.if-r.branch [
@@ -62,7 +62,7 @@ pub put-at-requires : goal.put-at-requires
 put-at-requires t c =
     let a = c.args in
     let l = c.loop-i in
-    let m = member c.requires l.i l.at l.next l.buf (l.invariant.still c.requires) l.invariant.within l.auto.buf c.unpack-e.ensures c.count-n.ensures.0
+    let m = member a.table.now c.requires l.i l.at l.next l.buf (l.invariant.still c.requires) l.invariant.within l.auto.buf c.unpack-e.ensures c.count-n.ensures.0
     c.loop-i-test.true c.in-Some.t c.in-Some.ensures c.unpack-r.ensures in
     let z : Sized m c.if-r.size =
     elim c.if-r.branch [
@@ -77,7 +77,7 @@ pub overflow_add-next : goal.overflow_add-next
 overflow_add-next t c =
     let a = c.args in
     let l = c.loop-i in
-    let m = member c.requires l.i l.at l.next l.buf (l.invariant.still c.requires) l.invariant.within l.auto.buf c.unpack-e.ensures c.count-n.ensures.0
+    let m = member a.table.now c.requires l.i l.at l.next l.buf (l.invariant.still c.requires) l.invariant.within l.auto.buf c.unpack-e.ensures c.count-n.ensures.0
     c.loop-i-test.true c.in-Some.t c.in-Some.ensures c.unpack-r.ensures in
     let z : Sized m c.if-r.size =
     elim c.if-r.branch [
@@ -91,7 +91,7 @@ pub put_members-y-requires : goal.put_members-y-requires
 put_members-y-requires t c =
     let a = c.args in
     let l = c.loop-i in
-    let m = member c.requires l.i l.at l.next l.buf (l.invariant.still c.requires) l.invariant.within l.auto.buf c.unpack-e.ensures c.count-n.ensures.0
+    let m = member a.table.now c.requires l.i l.at l.next l.buf (l.invariant.still c.requires) l.invariant.within l.auto.buf c.unpack-e.ensures c.count-n.ensures.0
     c.loop-i-test.true c.in-Some.t c.in-Some.ensures c.unpack-r.ensures in
     let z : Sized m c.if-r.size =
     elim c.if-r.branch [
@@ -100,17 +100,17 @@ put_members-y-requires t c =
     ] in
     let q = fronted m c.if-r.size z c.unpack-r.ensures c.put-next.result c.put-next.new.buf c.put-next.ensures.0 c.put-next.ensures.1 c.put-next.auto.buf in (
       omega (arith, (put_near m).0, c.loop-i.invariant.onward, c.decreases),
-      rw (← c.unpack-r.ensures) (put_under q (λ k. omega (arith, c.type_inv.table k)) c.if-r-2.false),
+      rw (← c.unpack-r.ensures) (put_under q c.if-r-2.false),
     )
 
 pub loop-i-preserved : goal.loop-i-preserved
 loop-i-preserved t c =
     let a = c.args in
-    let after : (Y : Puts a.table.now a.index.now a.v.now a.notes.now (unpacked a.w) a.p a.to a.buf.now)
+    let after : (Y : Puts a.table.now.octets.now a.v.now a.notes.now (unpacked a.w) a.p a.to a.buf.now)
     → (c.loop-i.at ≤ c.if-r-2.at) × (c.if-r-2.at ≤ length a.v.now) × Still Y (c.loop-i.i + 1) c.if-r-2.at c.if-r-2.next c.if-r-2.buf =
     λ Y.
     let l = c.loop-i in
-    let m = member Y l.i l.at l.next l.buf (l.invariant.still Y) l.invariant.within l.auto.buf c.unpack-e.ensures c.count-n.ensures.0
+    let m = member a.table.now Y l.i l.at l.next l.buf (l.invariant.still Y) l.invariant.within l.auto.buf c.unpack-e.ensures c.count-n.ensures.0
     c.loop-i-test.true c.in-Some.t c.in-Some.ensures c.unpack-r.ensures in
     let z : Sized m c.if-r.size =
     elim c.if-r.branch [
@@ -122,8 +122,8 @@ loop-i-preserved t c =
       | then-r-2 w ↦ rw (w.at-is, w.next-is, w.buf-is) (put_leaf q w.if-r-2.true _ _ w.put-at.ensures.0 w.put-at.ensures.1)
       | else-r-2 w ↦
           let e = rw (← c.unpack-r.ensures) at w.put_members-y.ensures in
-          rw (w.at-is, w.next-is, w.buf-is) (put_built q (λ k. omega (arith, c.type_inv.table k)) w.if-r-2.false _ _
-          (e (put_under q (λ k. omega (arith, c.type_inv.table k)) w.if-r-2.false)))
+          rw (w.at-is, w.next-is, w.buf-is) (put_built q w.if-r-2.false _ _
+          (e (put_under q w.if-r-2.false)))
     ] in
     record { onward = omega (arith, c.loop-i.invariant.onward, (after c.requires).0); within = (after c.requires).1; still = λ Y. (after Y).2 }
 

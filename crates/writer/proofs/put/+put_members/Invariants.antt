@@ -13,5 +13,5 @@ abbrev pub invariant-loop-i : goal.invariant-loop-i
 invariant-loop-i l = record {
   onward : l.p ≤ l.at;
   within : l.at ≤ length l.v;
-  still : (x : Puts l.table l.index l.v l.notes (unpacked l.w) l.p l.to l.initial.buf) → Still x l.i l.at l.next l.buf;
+  still : (x : Puts l.table.octets.now l.v l.notes (unpacked l.w) l.p l.to l.initial.buf) → Still x l.i l.at l.next l.buf;
 }

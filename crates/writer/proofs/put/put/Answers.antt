@@ -1,6 +1,7 @@
 -- A message is a row of one value.
 -- Assumes nothing.
 use Rattle.std.proofs.Common.{ap}
+use Rattle.kinds.specs.Kinds.{octet_of}
 use Rattle.records.specs.Entries.{unpacked}
 use Rattle.records.specs.declared.entry.Entry.{Entry}
 use Rattle.writer.proofs.Whole.{whole_puts, whole_put}
@@ -10,14 +11,16 @@ pub put_members-requires : goal.put_members-requires
 put_members-requires c =
     let a = c.args in
     let q = c.requires in
-    whole_puts a.table.now a.index.now a.v.now a.notes.now q.0 a.t q.1 (unpacked c.whole.result) (ap (λ (x : Entry). x.kind) c.whole.ensures)
-    (ap (λ (x : Entry). x.own) c.whole.ensures) 24 q.2 q.3 a.buf.now q.4
+    let y = a.table.now in
+    whole_puts y.octets.now a.v.now a.notes.now y.filled.few a.t q.1 (unpacked c.whole.result) (ap (λ (x : Entry). octet_of x.kind) c.whole.ensures)
+    (ap (λ (x : Entry). x.own) c.whole.ensures) 24 q.0 q.2 a.buf.now q.3
 
 pub returns : goal.returns
 returns c =
     let a = c.args in
     let q = c.requires in
-    let k = ap (λ (x : Entry). x.kind) c.whole.ensures in
+    let y = a.table.now in
+    let k = ap (λ (x : Entry). octet_of x.kind) c.whole.ensures in
     let o = ap (λ (x : Entry). x.own) c.whole.ensures in
-    whole_put a.table.now a.index.now a.v.now a.notes.now q.0 a.t q.1 (unpacked c.whole.result) k o 24 q.2 q.3 a.buf.now q.4 _ _
-    (c.put_members.ensures (whole_puts a.table.now a.index.now a.v.now a.notes.now q.0 a.t q.1 (unpacked c.whole.result) k o 24 q.2 q.3 a.buf.now q.4))
+    whole_put y.octets.now a.v.now a.notes.now y.filled.few a.t q.1 (unpacked c.whole.result) k o 24 q.0 q.2 a.buf.now q.3 _ _
+    (c.put_members.ensures (whole_puts y.octets.now a.v.now a.notes.now y.filled.few a.t q.1 (unpacked c.whole.result) k o 24 q.0 q.2 a.buf.now q.3))
