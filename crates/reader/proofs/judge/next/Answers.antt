@@ -10,7 +10,7 @@ use Rattle.reader.proofs.Lent.{seeks}
 use Rattle.reader.proofs.Searching.{parted, since_is, has_members_lem}
 use Rattle.reader.proofs.Ending.{stands_one, stands_more, stands_broken, stands_list, stands_lacking, stands_over}
 use Rattle.reader.proofs.judge.next.Goals as goal
-use Rattle.reader.proofs.judge.next.Goals.{then-eq, else-eq}
+use Rattle.reader.proofs.judge.next.Goals.{Joined-eq, then-eq, else-eq}
 
 pub returns-then-holds_one : goal.returns-then-holds_one
 returns-then-holds_one c =
@@ -34,27 +34,25 @@ lacks-requires c =
     let s = seeks (ready_by c.args.table.now) c.requires.0 in
     (c.requires.0, has_members_lem s _ c.unpack-e.ensures _ c.has_members.ensures c.if-eq.i c.if-has_members.true)
 
+-- from which member on it is looked
+from_part : (c : Joined-eq) → c.if-eq.i ≡ since (manner (held c.args.table.now.octets.now c.args.w)) c.args.j
+from_part c =
+    since_is (parted (seeks (ready_by c.args.table.now) c.requires.0) c.unpack-e.ensures refl) _ _ (elim c.if-eq.branch [
+      | then-eq x ↦ inl (is_kind c.unpack-e.result.kind Sequence c.eq.ensures x.if-eq.true, x.i-is)
+      | else-eq x ↦ inr (not_kind c.unpack-e.result.kind Sequence c.eq.ensures x.if-eq.false, x.i-is)
+    ])
+
 pub returns-then-lacks : goal.returns-then-lacks
 returns-then-lacks c =
     let s = seeks (ready_by c.args.table.now) c.requires.0 in
-    let i : c.if-eq.i ≡ since (manner (held c.args.table.now.octets.now c.args.w)) c.args.j
-    = since_is (parted s c.unpack-e.ensures refl) _ _ (elim c.if-eq.branch [
-      | then-eq x ↦ inl (is_kind c.unpack-e.result.kind Sequence c.eq.ensures x.if-eq.true, x.i-is)
-      | else-eq x ↦ inr (not_kind c.unpack-e.result.kind Sequence c.eq.ensures x.if-eq.false, x.i-is)
-    ]) in
-    rw (← i)
+    rw (← from_part (goal.at.returns-then-lacks c).Joined-eq)
     (stands_lacking s c.requires.1 _ c.unpack-e.ensures _ c.holds_one.ensures _ _ c.if-holds_one.false _ c.read.ensures _
     (rw c.in-Some.is at c.in_ok-end.was) _ c.has_members.ensures _ c.lacks.ensures c.if-lacks.true)
 
 pub returns-else-lacks : goal.returns-else-lacks
 returns-else-lacks c =
     let s = seeks (ready_by c.args.table.now) c.requires.0 in
-    let i : c.if-eq.i ≡ since (manner (held c.args.table.now.octets.now c.args.w)) c.args.j
-    = since_is (parted s c.unpack-e.ensures refl) _ _ (elim c.if-eq.branch [
-      | then-eq x ↦ inl (is_kind c.unpack-e.result.kind Sequence c.eq.ensures x.if-eq.true, x.i-is)
-      | else-eq x ↦ inr (not_kind c.unpack-e.result.kind Sequence c.eq.ensures x.if-eq.false, x.i-is)
-    ]) in
-    rw (← i)
+    rw (← from_part (goal.at.returns-else-lacks c).Joined-eq)
     (stands_over s c.requires.1 _ c.unpack-e.ensures _ c.holds_one.ensures _ _ c.if-holds_one.false _ c.read.ensures _
     (rw c.in-Some.is at c.in_ok-end.was) _ c.has_members.ensures _ c.lacks.ensures c.if-lacks.false)
 
