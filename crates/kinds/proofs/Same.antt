@@ -1,10 +1,11 @@
 -- What equality of kinds says of their octets. Neither the octet nor the place of a kind is another's.
 -- Assumes nothing.
-use Rattle.std.proofs.Common.{Bool, true, false, not, ◌||◌, ◌⊎◌, inl, inr, ℕ, ◌≡◌, ◌<◌, refl, sym, ◌∙◌, ap, arith}
+use Rattle.std.proofs.Common.{Bool, true, false, not, ◌||◌, ◌⊎◌, inl, inr, ℕ, ◌≡◌, ◌<◌, refl, sym, ◌∙◌, ap, eq-eqb, arith}
 use denote.Enum.Bare.{sameb}
 use denote.Enum.Declared.{tag_of}
 use borrow.Author.Tests.{ne_eqb, eqb-true, eqb-false, not-true, not-false}
 use lib.Dec.{eqb}
+use Rattle.octets.proofs.Members.{or_right}
 use Rattle.kinds.specs.contracts.Kind.{the_type}
 use Rattle.kinds.specs.declared.Kind.{Kind}
 use Rattle.kinds.specs.declared.Kind.TheVariants.{Boolean, Integer, BitString, OctetString, Null, Enumerated, UtcTime, GeneralizedTime, Sequence, Set, SequenceOf, SetOf, Choice, Message}
@@ -133,17 +134,11 @@ same_kind j k e = sym (octet_back j) ∙ ap kind_of e ∙ octet_back k
 pub differs : {j k : Kind} → (j ≡ k → ⊥) → eqb (octet_of j) (octet_of k) ≡ false
 differs f = ne_eqb _ _ (λ e. f (same_kind _ _ e))
 
--- what a test of two kinds in one arm knows
-pub with_members : {k : Kind} → (k ≡ Sequence) ⊎ (k ≡ Set) → (eqb (octet_of k) 16 || eqb (octet_of k) 17) ≡ true
-with_members (inl e) = rw e refl
-with_members (inr e) = rw e refl
+-- what an arm for two kinds knows, and one after it
+module _ {j k l : Kind} where
+  pub one_of : (j ≡ k) ⊎ (j ≡ l) → (eqb (octet_of j) (octet_of k) || eqb (octet_of j) (octet_of l)) ≡ true
+  one_of (inl e) = rw (eq-eqb _ _ (ap octet_of e)) refl
+  one_of (inr e) = or_right (eqb (octet_of j) (octet_of k)) _ (eq-eqb _ _ (ap octet_of e))
 
-pub with_elements : {k : Kind} → (k ≡ SequenceOf) ⊎ (k ≡ SetOf) → (eqb (octet_of k) 48 || eqb (octet_of k) 49) ≡ true
-with_elements (inl e) = rw e refl
-with_elements (inr e) = rw e refl
-
-pub no_members : {k : Kind} → (k ≡ Sequence → ⊥) → (k ≡ Set → ⊥) → (eqb (octet_of k) 16 || eqb (octet_of k) 17) ≡ false
-no_members f g = rw (differs f, differs g) refl
-
-pub no_list : {k : Kind} → (k ≡ SequenceOf → ⊥) → (k ≡ SetOf → ⊥) → (eqb (octet_of k) 48 || eqb (octet_of k) 49) ≡ false
-no_list f g = rw (differs f, differs g) refl
+  pub none_of : (j ≡ k → ⊥) → (j ≡ l → ⊥) → (eqb (octet_of j) (octet_of k) || eqb (octet_of j) (octet_of l)) ≡ false
+  none_of f g = rw (differs f, differs g) refl

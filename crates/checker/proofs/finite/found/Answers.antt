@@ -1,6 +1,6 @@
 -- A body goes by its kind.
 use Rattle.std.proofs.Common.{◌∙◌, refl, arith}
-use Rattle.kinds.proofs.Same.{differs, with_members, no_members}
+use Rattle.kinds.proofs.Same.{differs, one_of, none_of}
 use Rattle.checker.proofs.Rules.{near_counted, near_span, finite_members, finite_choice, finite_other}
 use Rattle.checker.proofs.finite.found.Goals as goal
 
@@ -8,7 +8,7 @@ pub each_flagged-requires : goal.each_flagged-requires
 each_flagged-requires c = rw c.parts.ensures (near_span _ _ _ (λ i. omega (arith, c.type_inv.table i)) (omega arith))
 
 pub returns-in-Sequence : goal.returns-in-Sequence
-returns-in-Sequence c = λ r x. rw c.parts.ensures at c.each_flagged.ensures ∙ finite_members x _ (with_members c.in-Sequence.is)
+returns-in-Sequence c = λ r x. rw c.parts.ensures at c.each_flagged.ensures ∙ finite_members x _ (one_of c.in-Sequence.is)
 
 pub one_flagged-requires : goal.one_flagged-requires
 one_flagged-requires c =
@@ -18,4 +18,4 @@ pub returns-in-Choice : goal.returns-in-Choice
 returns-in-Choice c = λ r x. rw c.alternatives.ensures at c.one_flagged.ensures ∙ finite_choice x _ (rw c.in-Choice.is refl)
 
 pub returns-in_default : goal.returns-in_default
-returns-in_default c = λ r x. finite_other x _ (no_members c.in_default.not-Sequence c.in_default.not-Set) (differs c.in_default.not-Choice)
+returns-in_default c = λ r x. finite_other x _ (none_of c.in_default.not-Sequence c.in_default.not-Set) (differs c.in_default.not-Choice)

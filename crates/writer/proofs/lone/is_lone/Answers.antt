@@ -2,7 +2,7 @@
 -- Assumes nothing.
 use Rattle.std.proofs.Common.{sym, ◌∙◌}
 use Rattle.std.proofs.lemmas.Option.{none-some}
-use Rattle.kinds.proofs.Same.{with_members, with_elements, no_members, no_list}
+use Rattle.kinds.proofs.Same.{one_of, none_of}
 use Rattle.writer.proofs.Alone.{lone_long, lone_unmarked, lone_unshaped, lone_leaf, lone_members, lone_list, lone_none, lone_no_kind}
 use Rattle.writer.proofs.lone.is_lone.Goals as goal
 
@@ -33,18 +33,18 @@ pub returns-in-Sequence : goal.returns-in-Sequence
 returns-in-Sequence c =
     let k = (c.of.ensures _).0 c.in-Some.is in
     lone_members c.args.v.now c.if-v-gt-LONGEST_VALUE.false (c.marked.ensures.yes c.if-not-marked.false)
-    (rw k at (with_members c.in-Sequence.is)) _ c.no_member.ensures
+    (rw k at (one_of c.in-Sequence.is)) _ c.no_member.ensures
 
 pub returns-in-SequenceOf : goal.returns-in-SequenceOf
 returns-in-SequenceOf c =
     let k = (c.of.ensures _).0 c.in-Some.is in
     lone_list c.args.v.now c.if-v-gt-LONGEST_VALUE.false (c.marked.ensures.yes c.if-not-marked.false)
-    (rw k at (with_elements c.in-SequenceOf.is)) _ c.no_element.ensures
+    (rw k at (one_of c.in-SequenceOf.is)) _ c.no_element.ensures
 
 pub returns-in_default-kind : goal.returns-in_default-kind
 returns-in_default-kind c =
     let d = c.in_default-kind in
     let k = (c.of.ensures _).0 c.in-Some.is in
     lone_none c.args.v.now c.if-v-gt-LONGEST_VALUE.false (c.marked.ensures.yes c.if-not-marked.false)
-    (rw k at (sym c.constructed.ensures ∙ c.if-not-constructed.false)) (rw k at (no_members d.not-Sequence d.not-Set))
-    (rw k at (no_list d.not-SequenceOf d.not-SetOf))
+    (rw k at (sym c.constructed.ensures ∙ c.if-not-constructed.false)) (rw k at (none_of d.not-Sequence d.not-Set))
+    (rw k at (none_of d.not-SequenceOf d.not-SetOf))

@@ -2,7 +2,7 @@
 -- Assumes nothing.
 use Rattle.std.proofs.Common.{refl, ap, arith}
 use Rattle.kinds.specs.Kinds.{octet_of}
-use Rattle.kinds.proofs.Same.{same_kind, with_members, no_members}
+use Rattle.kinds.proofs.Same.{same_kind, one_of, none_of}
 use Rattle.writer.proofs.Agreement.{members_there, agrees_count, agrees_complete, members_near, choice_there, agrees_choice, agrees_list}
 use Rattle.writer.proofs.node.agrees.Goals as goal
 
@@ -11,27 +11,27 @@ bounds-v-p c =
     let a = c.args in
     omega (
       arith,
-      members_there a.table.now a.v.now a.e.own (octet_of a.e.kind) a.p _ c.parts-s.ensures _ refl (with_members c.in-Sequence.is) c.requires.2,
+      members_there a.table.now a.v.now a.e.own (octet_of a.e.kind) a.p _ c.parts-s.ensures _ refl (one_of c.in-Sequence.is) c.requires.2,
     )
 
 pub returns-then-v-p : goal.returns-then-v-p
 returns-then-v-p c =
     let a = c.args in
-    agrees_count a.table.now a.v.now a.e.own (octet_of a.e.kind) a.p _ c.parts-s.ensures _ refl (with_members c.in-Sequence.is) c.if-v-p.true
+    agrees_count a.table.now a.v.now a.e.own (octet_of a.e.kind) a.p _ c.parts-s.ensures _ refl (one_of c.in-Sequence.is) c.if-v-p.true
 
 pub is_complete-requires : goal.is_complete-requires
 is_complete-requires c =
     let a = c.args in
-    let n = members_near a.table.now a.v.now a.e.own (octet_of a.e.kind) a.p _ c.parts-s.ensures _ refl (with_members c.in-Sequence.is)
+    let n = members_near a.table.now a.v.now a.e.own (octet_of a.e.kind) a.p _ c.parts-s.ensures _ refl (one_of c.in-Sequence.is)
     (λ k. omega (arith, c.type_inv.table k)) (omega arith) in
-    let m = members_there a.table.now a.v.now a.e.own (octet_of a.e.kind) a.p _ c.parts-s.ensures _ refl (with_members c.in-Sequence.is)
+    let m = members_there a.table.now a.v.now a.e.own (octet_of a.e.kind) a.p _ c.parts-s.ensures _ refl (one_of c.in-Sequence.is)
     c.requires.2 in
     (n.0, n.1, omega (arith, c.if-v-p.false))
 
 pub returns-else-v-p : goal.returns-else-v-p
 returns-else-v-p c =
     let a = c.args in
-    agrees_complete a.table.now a.v.now a.e.own (octet_of a.e.kind) a.p _ c.parts-s.ensures _ refl (with_members c.in-Sequence.is)
+    agrees_complete a.table.now a.v.now a.e.own (octet_of a.e.kind) a.p _ c.parts-s.ensures _ refl (one_of c.in-Sequence.is)
     c.if-v-p.false _ c.is_complete.ensures
 
 pub bounds-v-p-in-Choice : goal.bounds-v-p-in-Choice
@@ -47,5 +47,5 @@ returns-in-Choice c =
 pub returns-in_default : goal.returns-in_default
 returns-in_default c =
     let a = c.args in
-    agrees_list a.table.now a.v.now a.e.own (octet_of a.e.kind) a.p _ c.parts-s.ensures _ refl (no_members c.in_default.not-Sequence c.in_default.not-Set)
+    agrees_list a.table.now a.v.now a.e.own (octet_of a.e.kind) a.p _ c.parts-s.ensures _ refl (none_of c.in_default.not-Sequence c.in_default.not-Set)
     (λ e. c.in_default.not-Choice (same_kind _ _ e)) c.requires.1 c.requires.2
