@@ -1,4 +1,4 @@
--- Laws of the kinds. The first file is for the crates above.
+-- Laws of the kinds.
 -- Assumes nothing.
 pub mod Same
-mod Identifiers
+pub mod Identifiers

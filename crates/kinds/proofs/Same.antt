@@ -1,32 +1,20 @@
--- What equality of kinds says of their octets. Neither the octet nor the place of a kind is another's.
+-- What equality of kinds says of their octets. The octet of a kind is no other's, and a number that is none of them counts as a message's.
 -- Assumes nothing.
-use Rattle.std.proofs.Common.{Bool, true, false, not, ◌||◌, ◌⊎◌, inl, inr, ℕ, ◌≡◌, ◌<◌, refl, sym, ◌∙◌, ap, eq-eqb, arith}
+use Rattle.std.proofs.Common.{Bool, true, false, not, ◌||◌, ◌⊎◌, inl, inr, ℕ, List, [], ◌∷◌, ◌≡◌, ◌↔◌, Option, Some, None, refl, sym, ◌∙◌, ap, eq-eqb}
+use mathlib.Core.Logic.{⊎_elim}
+use mathlib.Core.Bool.{false≢true}
+use Rattle.std.specs.Prelude.{is_some, unwrap_or}
+use Rattle.octets.proofs.Tests.{test}
 use denote.Enum.Bare.{sameb}
 use denote.Enum.Declared.{tag_of}
 use borrow.Author.Tests.{ne_eqb, eqb-true, eqb-false, not-true, not-false}
 use lib.Dec.{eqb}
+use lib.ListN.{get_or}
 use Rattle.octets.proofs.Members.{or_right}
 use Rattle.kinds.specs.contracts.Kind.{the_type}
 use Rattle.kinds.specs.declared.Kind.{Kind}
 use Rattle.kinds.specs.declared.Kind.TheVariants.{Boolean, Integer, BitString, OctetString, Null, Enumerated, UtcTime, GeneralizedTime, Sequence, Set, SequenceOf, SetOf, Choice, Message}
-use Rattle.kinds.specs.Kinds.{octet_of, place_of, kind_at, kind_of}
-
-pub kind_back : (k : Kind) → kind_at (place_of k) ≡ k
-unfolding kind_at
-kind_back Boolean = refl
-kind_back Integer = refl
-kind_back BitString = refl
-kind_back OctetString = refl
-kind_back Null = refl
-kind_back Enumerated = refl
-kind_back UtcTime = refl
-kind_back GeneralizedTime = refl
-kind_back Sequence = refl
-kind_back Set = refl
-kind_back SequenceOf = refl
-kind_back SetOf = refl
-kind_back Choice = refl
-kind_back Message = refl
+use Rattle.kinds.specs.Kinds.{octet_of, kinds, kind_among, kind_of}
 
 pub octet_back : (k : Kind) → kind_of (octet_of k) ≡ k
 unfolding kind_of
@@ -45,50 +33,39 @@ octet_back SetOf = refl
 octet_back Choice = refl
 octet_back Message = refl
 
-pub place_low : (k : Kind) → place_of k < 256
-place_low Boolean = omega arith
-place_low Integer = omega arith
-place_low BitString = omega arith
-place_low OctetString = omega arith
-place_low Null = omega arith
-place_low Enumerated = omega arith
-place_low UtcTime = omega arith
-place_low GeneralizedTime = omega arith
-place_low Sequence = omega arith
-place_low Set = omega arith
-place_low SequenceOf = omega arith
-place_low SetOf = omega arith
-place_low Choice = omega arith
-place_low Message = omega arith
+pub same_kind : (j k : Kind) → octet_of j ≡ octet_of k → j ≡ k
+same_kind j k e = sym (octet_back j) ∙ ap kind_of e ∙ octet_back k
 
-tag_place : (k : Kind) → tag_of the_type k ≡ place_of k
-tag_place Boolean = refl
-tag_place Integer = refl
-tag_place BitString = refl
-tag_place OctetString = refl
-tag_place Null = refl
-tag_place Enumerated = refl
-tag_place UtcTime = refl
-tag_place GeneralizedTime = refl
-tag_place Sequence = refl
-tag_place Set = refl
-tag_place SequenceOf = refl
-tag_place SetOf = refl
-tag_place Choice = refl
-tag_place Message = refl
+-- the kinds in the order of their places, which tell them apart
+kind_at : ℕ → Kind
+kind_at n = get_or kinds n Message
 
-same_place : (j k : Kind) → place_of j ≡ place_of k → j ≡ k
+kind_back : (k : Kind) → kind_at (tag_of the_type k) ≡ k
+unfolding kind_at
+kind_back Boolean = refl
+kind_back Integer = refl
+kind_back BitString = refl
+kind_back OctetString = refl
+kind_back Null = refl
+kind_back Enumerated = refl
+kind_back UtcTime = refl
+kind_back GeneralizedTime = refl
+kind_back Sequence = refl
+kind_back Set = refl
+kind_back SequenceOf = refl
+kind_back SetOf = refl
+kind_back Choice = refl
+kind_back Message = refl
+
+same_place : (j k : Kind) → tag_of the_type j ≡ tag_of the_type k → j ≡ k
 same_place j k e = sym (kind_back j) ∙ ap kind_at e ∙ kind_back k
 
 module _ (j k : Kind) {r : Bool} (e : r ≡ sameb the_type j k) where
-  by_place : r ≡ eqb (place_of j) (place_of k)
-  by_place = rw (← tag_place j, ← tag_place k) e
-
   pub is_kind : r ≡ true → octet_of j ≡ octet_of k
-  is_kind t = ap octet_of (same_place j k (eqb-true _ _ (sym by_place ∙ t)))
+  is_kind t = ap octet_of (same_place j k (eqb-true _ _ (sym e ∙ t)))
 
   pub not_kind : r ≡ false → octet_of j ≡ octet_of k → ⊥
-  not_kind f q = eqb-false _ _ (sym by_place ∙ f) (ap place_of (sym (octet_back j) ∙ ap kind_of q ∙ octet_back k))
+  not_kind f q = eqb-false _ _ (sym e ∙ f) (ap (tag_of the_type) (same_kind j k q))
 
 module _ (j k : Kind) {r : Bool} (e : r ≡ not (sameb the_type j k)) where
   pub is_other : r ≡ true → octet_of j ≡ octet_of k → ⊥
@@ -96,6 +73,23 @@ module _ (j k : Kind) {r : Bool} (e : r ≡ not (sameb the_type j k)) where
 
   pub not_other : r ≡ false → octet_of j ≡ octet_of k
   not_other f = is_kind j k refl (not-false _ (sym e ∙ f))
+
+-- a number is the octet of the kind that it counts as, or that is a message
+among : (n : ℕ) (ks : List Kind) → (octet_of (kind_among n ks) ≡ n) ⊎ (kind_among n ks ≡ Message)
+among n [] = inr refl
+among n (k ∷ ks) = test (eqb (octet_of k) n) (λ e. rw e (inl (eqb-true _ _ e))) λ e. rw e (among n ks)
+
+module _ (n : ℕ) where
+  pub counts_as : (octet_of (kind_of n) ≡ n) ⊎ ((kind_of n ≡ Message) × ((k : Kind) → octet_of k ≡ n → ⊥))
+  unfolding kind_of
+  counts_as =
+      test (eqb n 51) (λ e. rw (eqb-true n 51 e) (inl refl)) λ e.
+      ⊎_elim inl (λ m. inr (m, λ k q. eqb-false n 51 e (sym q ∙ ap octet_of (sym (octet_back k) ∙ ap kind_of q ∙ m)))) (among n kinds)
+
+  -- what `of` finds, and a message where it finds none
+  pub or_message : (x : Option Kind) → ((k : Kind) → (x ≡ Some k) ↔ (octet_of k ≡ n)) → unwrap_or x Message ≡ kind_of n
+  or_message (Some k) h = sym (octet_back k) ∙ ap kind_of ((h k).0 refl)
+  or_message None h = ⊎_elim (λ e. absurd (false≢true (ap is_some ((h (kind_of n)).1 e)))) (λ m. sym m.0) counts_as
 
 -- an octet that no kind has is none of theirs
 pub no_octet : (n : ℕ) → ((k : Kind) → octet_of k ≡ n → ⊥)
@@ -127,9 +121,6 @@ no_octet n h = (
   ne_eqb n 49 (λ e. h SetOf (sym e)),
   ne_eqb n 50 (λ e. h Choice (sym e)),
 )
-
-pub same_kind : (j k : Kind) → octet_of j ≡ octet_of k → j ≡ k
-same_kind j k e = sym (octet_back j) ∙ ap kind_of e ∙ octet_back k
 
 pub differs : {j k : Kind} → (j ≡ k → ⊥) → eqb (octet_of j) (octet_of k) ≡ false
 differs f = ne_eqb _ _ (λ e. f (same_kind _ _ e))

@@ -1,6 +1,6 @@
--- The octet of each kind in tables and values, and its place in the index of a table (FORMATS, "Tables").
+-- The octet of each kind in tables and values, and the kind that an octet counts as (FORMATS, "Tables").
 -- Assumes nothing.
-use Rattle.std.specs.Prelude.{List, [], ◌∷◌, ℕ, eqb, get_or}
+use Rattle.std.specs.Prelude.{List, [], ◌∷◌, ℕ, eqb}
 use Rattle.octets.specs.Tests.{if}
 use Rattle.kinds.specs.declared.Kind.{Kind}
 use Rattle.kinds.specs.declared.Kind.TheVariants.{Boolean, Integer, BitString, OctetString, Null, Enumerated, UtcTime, GeneralizedTime, Sequence, Set, SequenceOf, SetOf, Choice, Message}
@@ -22,31 +22,10 @@ octet_of SetOf = 49
 octet_of Choice = 50
 octet_of Message = 51
 
--- the kinds are numbered from 0
-abbrev pub place_of : Kind → ℕ
-place_of Boolean = 0
-place_of Integer = 1
-place_of BitString = 2
-place_of OctetString = 3
-place_of Null = 4
-place_of Enumerated = 5
-place_of UtcTime = 6
-place_of GeneralizedTime = 7
-place_of Sequence = 8
-place_of Set = 9
-place_of SequenceOf = 10
-place_of SetOf = 11
-place_of Choice = 12
-place_of Message = 13
-
--- those of records, by their places
+-- those of records
 abbrev pub kinds : List Kind
 kinds =
     Boolean ∷ Integer ∷ BitString ∷ OctetString ∷ Null ∷ Enumerated ∷ UtcTime ∷ GeneralizedTime ∷ Sequence ∷ Set ∷ SequenceOf ∷ SetOf ∷ Choice ∷ []
-
--- the kind at a place; a message from the last on
-unfoldable pub kind_at : ℕ → Kind
-kind_at n = get_or kinds n Message
 
 -- the kind that has an octet; a message if no record's kind has it
 abbrev pub kind_among : ℕ → List Kind → Kind

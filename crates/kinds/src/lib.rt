@@ -1,14 +1,14 @@
-// The kinds of types, each with its octet and its own UNIVERSAL tag (FORMATS, "Tables"; X.690, 8.1.2).
+// The kinds of types, each with its octet and its own UNIVERSAL tag, and the same of a number that may be no kind's octet (FORMATS, "Tables";
+// X.690, 8.1.2).
 #![tactic(auto)]
 
 ghost use Rattle.std.specs.Prelude.{◌≡◌, ◌||◌, ◌↔◌, Some, eqb};
 ghost use Rattle.table.specs.Fields.{universal_of, constructed_of, time_kind};
 ghost use Rattle.kinds.specs.declared.Kind.{Kind};
-ghost use Rattle.kinds.specs.Kinds.{octet_of, place_of, kind_at};
+ghost use Rattle.kinds.specs.Kinds.{octet_of, kind_of};
 
 use dates::TimeKind;
 
-// In the order in which the index of a table numbers them.
 #[derive(Clone, Copy, Debug, PartialEq, Eq)]
 pub enum Kind {
     Boolean,
@@ -77,34 +77,12 @@ impl Kind {
         }
     }
 
-    // Its place among the kinds.
-    pub fn place(self) -> u8
-        ensures { result ≡ place_of self }
+    // The kind that has the octet; a message for an octet that no record's kind has.
+    #[tactic(auto, using(crate::proofs::Same::or_message))]
+    pub fn or_message(octet: u8) -> Kind
+        ensures { result ≡ kind_of octet }
     {
-        self as u8
-    }
-
-    // The kind at a place; a message from the last on. The index has places and no octets, since a compiler turns these tests into one.
-    #[tactic(auto, unfolding(crate::specs::Kinds::kind_at))]
-    pub fn at(place: u8) -> Kind
-        ensures { result ≡ kind_at place }
-    {
-        match place {
-            0 => Kind::Boolean,
-            1 => Kind::Integer,
-            2 => Kind::BitString,
-            3 => Kind::OctetString,
-            4 => Kind::Null,
-            5 => Kind::Enumerated,
-            6 => Kind::UtcTime,
-            7 => Kind::GeneralizedTime,
-            8 => Kind::Sequence,
-            9 => Kind::Set,
-            10 => Kind::SequenceOf,
-            11 => Kind::SetOf,
-            12 => Kind::Choice,
-            _ => Kind::Message,
-        }
+        Kind::of(octet).unwrap_or(Kind::Message)
     }
 
     // Whether what it holds is members.
@@ -160,5 +138,68 @@ impl Kind {
         ensures { result ≡ constructed_of (octet_of self) }
     {
         IDENTIFIER[self as usize] / 32 == 1
+    }
+}
+
+// What follows answers for every number. One that is no kind's octet holds nothing, and like a CHOICE it has no tag of its own.
+
+// Whether what a kind holds is members.
+pub fn has_members(kind: u8) -> bool
+    ensures { result ≡ (eqb kind 16 || eqb kind 17) }
+{
+    kind == Kind::Sequence.octet() || kind == Kind::Set.octet()
+}
+
+// Whether what a kind holds is elements of one type.
+pub fn is_list(kind: u8) -> bool
+    ensures { result ≡ (eqb kind 48 || eqb kind 49) }
+{
+    kind == Kind::SequenceOf.octet() || kind == Kind::SetOf.octet()
+}
+
+// Whether a kind is a string, which may come in segments.
+pub fn is_string(kind: u8) -> bool
+    ensures { result ≡ (eqb kind 3 || eqb kind 4) }
+{
+    kind == Kind::BitString.octet() || kind == Kind::OctetString.octet()
+}
+
+// Whether what a kind holds is one item.
+pub fn holds_one(kind: u8) -> bool
+    ensures { result ≡ (eqb kind 50 || eqb kind 51) }
+{
+    kind == Kind::Choice.octet() || kind == Kind::Message.octet()
+}
+
+// Which time a kind is, if it is one.
+#[tactic(auto, unfolding(table::specs::Fields::time_kind))]
+pub fn time_kind(kind: u8) -> TimeKind
+    ensures { result ≡ time_kind kind }
+{
+    if kind == Kind::UtcTime.octet() {
+        return TimeKind::Utc;
+    }
+    TimeKind::Generalized
+}
+
+// The UNIVERSAL number of a kind; 0 for a CHOICE.
+#[tactic(auto, using(crate::proofs::Identifiers::universal_kept, crate::proofs::Identifiers::universal_beyond))]
+pub fn universal(kind: usize) -> usize
+    ensures { result ≡ universal_of kind }
+{
+    match u8::try_from(kind) {
+        Ok(octet) => Kind::or_message(octet).universal(),
+        Err(_) => 0,
+    }
+}
+
+// Whether a kind is constructed.
+#[tactic(auto, using(crate::proofs::Identifiers::constructed_kept, crate::proofs::Identifiers::constructed_beyond))]
+pub fn constructed(kind: usize) -> bool
+    ensures { result ≡ constructed_of kind }
+{
+    match u8::try_from(kind) {
+        Ok(octet) => Kind::or_message(octet).constructed(),
+        Err(_) => true,
     }
 }

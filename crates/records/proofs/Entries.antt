@@ -201,26 +201,25 @@ module _ (b : List ℕ) (o : ℕ) (s : Octets b) (h : 0 < record_end b o) where
       let w = owned b (own_at b o) k (rw head.end at h) in
       let q : o + 4 + 3 * n - 3 * n ≡ o + 4 = omega arith in
       let l = length_tags b (o + 4) n in
-      let j = kind_shaped b o h in
       let i : eqb k 50 ≡ is_choice body = ap (λ m. eqb m 50) (kind_owned w) ∙ choice_kind body in
       let c : constructed_of k ≡ constructed body = sym (constructed_of_lem b k (own_at b o)) in
       record {
-        body = rw j refl;
+        body = refl;
         tags = rw (l, q);
         behind = rw l (omega arith);
         few = rw l head.few;
         code = outermost_is b (o + 4) n body (constructed_of k) c;
         explicit = rw (l, i);
         simple = ap not c;
-        some = rw (j, ← head.end) h;
-        ends = rw (j, ← head.end) back.within;
+        some = rw head.end at h;
+        ends = rw head.end at back.within;
       }
 
   pub entry_back : length b ≤ 8192 → unpacked (packed (entry_at b o)) ≡ entry_at b o
   unfolding entry_at
   entry_back l =
       let n = heads b o h in
-      unpacks (entry_at b o) (explicit_small (get_or b (o + 2) 0) (get_or b (o + 3) 0) n.0) (omega arith) (outermost_small b (o + 4) _ _ s)
+      unpacks (entry_at b o) (explicit_small (get_or b (o + 2) 0) (get_or b (o + 3) 0) n.0) (s (o + 2)) (omega arith) (outermost_small b (o + 4) _ _ s)
 
 -- the span of a kind whose own part is at p
 module _ {b : List ℕ} {p : ℕ} where
@@ -293,25 +292,28 @@ choice_constructed (Choice ts) e = refl
 
 -- what an entry says of its record
 module _ {b : List ℕ} {e : Entry} {r : Record} (x : Entered b e r) where
-  entered_owned : Owned b e.own (octet_of e.kind) r.body
-  entered_owned = rw x.body at (owned b e.own (octet_of e.kind) x.some)
+  entered_owned : Owned b e.own e.kind r.body
+  entered_owned = rw x.body at (owned b e.own e.kind x.some)
 
-  pub entered_kind : octet_of e.kind ≡ kind r.body
+  pub entered_kind : e.kind ≡ kind r.body
   entered_kind = kind_owned entered_owned
 
-  pub kind_choice : eqb (octet_of e.kind) 50 ≡ is_choice r.body
+  pub entered_known : octet_of (kind_of e.kind) ≡ e.kind
+  entered_known = kind_there entered_owned
+
+  pub kind_choice : eqb e.kind 50 ≡ is_choice r.body
   kind_choice = ap (λ k. eqb k 50) entered_kind ∙ choice_kind r.body
 
-  pub kind_members : (eqb (octet_of e.kind) 16 || eqb (octet_of e.kind) 17) ≡ has_members r.body
+  pub kind_members : (eqb e.kind 16 || eqb e.kind 17) ≡ has_members r.body
   kind_members = ap (λ k. eqb k 16 || eqb k 17) entered_kind ∙ members_kind r.body
 
-  pub entered_span : let s = span_of b (octet_of e.kind) e.own in every_at s.step b s.first s.count ≡ references r.body
+  pub entered_span : let s = span_of b e.kind e.own in every_at s.step b s.first s.count ≡ references r.body
   entered_span = span_owned entered_owned
 
-  pub part_inside : let s = span_of b (octet_of e.kind) e.own in (j : ℕ) → j < s.count → s.first + s.step * j < length b
+  pub part_inside : let s = span_of b e.kind e.own in (j : ℕ) → j < s.count → s.first + s.step * j < length b
   part_inside = part_owned entered_owned
 
-  with_members : (ms : List Member) → members_at b (e.own + 1) (get_or b e.own 0) ≡ ms → span_of b (octet_of e.kind) e.own ≡ counted b e.own 2
+  with_members : (ms : List Member) → members_at b (e.own + 1) (get_or b e.own 0) ≡ ms → span_of b e.kind e.own ≡ counted b e.own 2
       → Counted 2 0 16 b e.own → WithMembers b e ms
   with_members ms i s c =
       let n : get_or b e.own 0 ≡ length ms = sym (length_members b (e.own + 1) (get_or b e.own 0)) ∙ ap length i in
@@ -320,14 +322,14 @@ module _ {b : List ℕ} {e : Entry} {r : Record} (x : Entered b e r) where
   entered_sequence : (ms : List Member) → r.body ≡ Sequence ms → WithMembers b e ms
   unfolding kind body_at own_end span_of
   entered_sequence ms h =
-      let k : octet_of e.kind ≡ 16 = entered_kind ∙ ap kind h in
+      let k : e.kind ≡ 16 = entered_kind ∙ ap kind h in
       let i : Sequence (members_at b (e.own + 1) (get_or b e.own 0)) ≡ Sequence ms = (rw k at x.body) ∙ h in
       with_members ms (cc) (rw k) (members_counted b e.own (rw k at x.some))
 
   entered_set : (ms : List Member) → r.body ≡ Set ms → WithMembers b e ms
   unfolding kind body_at own_end span_of
   entered_set ms h =
-      let k : octet_of e.kind ≡ 17 = entered_kind ∙ ap kind h in
+      let k : e.kind ≡ 17 = entered_kind ∙ ap kind h in
       let i : Set (members_at b (e.own + 1) (get_or b e.own 0)) ≡ Set ms = (rw k at x.body) ∙ h in
       with_members ms (cc) (rw k) (members_counted b e.own (rw k at x.some))
 
@@ -337,7 +339,7 @@ module _ {b : List ℕ} {e : Entry} {r : Record} (x : Entered b e r) where
   pub entered_choice : (ts : List ℕ) → r.body ≡ Choice ts → WithAlternatives b e ts
   unfolding kind body_at own_end span_of
   entered_choice ts h =
-      let k : octet_of e.kind ≡ 50 = entered_kind ∙ ap kind h in
+      let k : e.kind ≡ 50 = entered_kind ∙ ap kind h in
       let i : Choice (every_at 1 b (e.own + 1) (get_or b e.own 0)) ≡ Choice ts = (rw k at x.body) ∙ h in
       let i' : every_at 1 b (e.own + 1) (get_or b e.own 0) ≡ ts = cc in
       let n : get_or b e.own 0 ≡ length ts = sym (length_every 1 b (e.own + 1) (get_or b e.own 0)) ∙ ap length i' in
@@ -347,14 +349,14 @@ module _ {b : List ℕ} {e : Entry} {r : Record} (x : Entered b e r) where
   entered_sequence_of : (t : ℕ) → r.body ≡ SequenceOf t → WithElements b e t
   unfolding kind body_at own_end span_of
   entered_sequence_of t h =
-      let k : octet_of e.kind ≡ 48 = entered_kind ∙ ap kind h in
+      let k : e.kind ≡ 48 = entered_kind ∙ ap kind h in
       let i : SequenceOf (get_or b e.own 0) ≡ SequenceOf t = (rw k at x.body) ∙ h in
       record { is = cc; span = rw k; within = reference_there b e.own (rw k at x.some) }
 
   entered_set_of : (t : ℕ) → r.body ≡ SetOf t → WithElements b e t
   unfolding kind body_at own_end span_of
   entered_set_of t h =
-      let k : octet_of e.kind ≡ 49 = entered_kind ∙ ap kind h in
+      let k : e.kind ≡ 49 = entered_kind ∙ ap kind h in
       let i : SetOf (get_or b e.own 0) ≡ SetOf t = (rw k at x.body) ∙ h in
       record { is = cc; span = rw k; within = reference_there b e.own (rw k at x.some) }
 
@@ -364,7 +366,7 @@ module _ {b : List ℕ} {e : Entry} {r : Record} (x : Entered b e r) where
   pub entered_enumerated : (ns : List ℕ) → r.body ≡ Plain (Enumerated ns) → WithNumbers b e ns
   unfolding kind body_at own_end
   entered_enumerated ns h =
-      let k : octet_of e.kind ≡ 10 = entered_kind ∙ ap kind h in
+      let k : e.kind ≡ 10 = entered_kind ∙ ap kind h in
       let i : Plain (Enumerated (numbers_at b (e.own + 1) (get_or b e.own 0))) ≡ Plain (Enumerated ns) = (rw k at x.body) ∙ h in
       let i' : numbers_at b (e.own + 1) (get_or b e.own 0) ≡ ns = cc in
       let n : get_or b e.own 0 ≡ length ns = sym (length_numbers b (e.own + 1) (get_or b e.own 0)) ∙ ap length i' in

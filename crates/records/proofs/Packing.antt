@@ -1,14 +1,12 @@
 -- An entry as one number: each part is below the unit of the next, so that quotients and remainders give the parts back.
 -- Assumes nothing.
 use mathlib.Core.Bool.{Bool, true, false}
-use mathlib.Core.Path.{◌≡◌, sym, ◌∙◌, ap}
+use mathlib.Core.Path.{◌≡◌, sym, ◌∙◌}
 use Prim.Native.Nat.{ℕ, ◌+◌, ◌*◌, ◌/◌, ◌%◌, ◌<◌}
 use native.Mathlib.Omega.{arith}
 use native.Mathlib.Nat.{mul-add-div_right, div-eq_of_lt, mul-add-mod_self_right, mod-eq_of_lt, div-div-eq-div-mul}
 use lib.Dec.{leb}
 use borrow.Author.Tests.{le-leb, lt-leb}
-use Rattle.kinds.specs.Kinds.{place_of, kind_at}
-use Rattle.kinds.proofs.Same.{place_low, kind_back}
 use Rattle.records.specs.Entries.{unpacked, high_octet, packed}
 use Rattle.records.specs.declared.entry.Entry.{Entry}
 
@@ -19,6 +17,10 @@ module _ (a m r : ℕ) (h : r < m) where
 
   lower : (a * m + r) % m ≡ r
   lower = mul-add-mod_self_right a m r ∙ mod-eq_of_lt h
+
+pub high_octet_below : (s : Bool) (x : ℕ) → x < 128 → high_octet s x < 256
+high_octet_below true x h = omega arith
+high_octet_below false x h = omega arith
 
 high_explicit : (s : Bool) (x : ℕ) → x < 128 → high_octet s x % 128 ≡ x
 high_explicit true x h = omega arith
@@ -44,17 +46,16 @@ module _ (high kind own code : ℕ) (h₁ : kind < 256) (h₂ : own < 65536) (h�
   above_kind =
       sym (div-div-eq-div-mul (number high kind own code) 281474976710656 256) ∙ rw above_own (upper high 256 kind h₁)
 
-pub unpacks : (e : Entry) → e.explicit < 128 → e.own < 65536 → e.code < 4294967296 → unpacked (packed e) ≡ e
+pub unpacks : (e : Entry) → e.explicit < 128 → e.kind < 256 → e.own < 65536 → e.code < 4294967296 → unpacked (packed e) ≡ e
 unfolding unpacked packed
-unpacks e h h₂ h₃ =
-    let h₁ = place_low e.kind in
+unpacks e h h₁ h₂ h₃ =
     let high = high_octet e.simple e.explicit in
-    let p : number high (place_of e.kind) e.own e.code % 4294967296 ≡ e.code = lower ((high * 256 + place_of e.kind) * 65536 + e.own) 4294967296 e.code h₃ in
-    let q : number high (place_of e.kind) e.own e.code / 4294967296 % 65536 ≡ e.own =
-    rw (above_code high (place_of e.kind) e.own e.code h₁ h₂ h₃) (lower (high * 256 + place_of e.kind) 65536 e.own h₂) in
-    let r : number high (place_of e.kind) e.own e.code / 281474976710656 % 256 ≡ place_of e.kind =
-    rw (above_own high (place_of e.kind) e.own e.code h₁ h₂ h₃) (lower high 256 (place_of e.kind) h₁) in
-    let t : number high (place_of e.kind) e.own e.code / 72057594037927936 % 128 ≡ e.explicit =
-    rw (above_kind high (place_of e.kind) e.own e.code h₁ h₂ h₃) (high_explicit e.simple e.explicit h) in
-    let u = high_simple e.simple e.explicit (place_of e.kind) e.own e.code h h₁ h₂ h₃ in
-    λ i. record { code = p i; own = q i; kind = (ap kind_at r ∙ kind_back e.kind) i; explicit = t i; simple = u i }
+    let p : number high e.kind e.own e.code % 4294967296 ≡ e.code = lower ((high * 256 + e.kind) * 65536 + e.own) 4294967296 e.code h₃ in
+    let q : number high e.kind e.own e.code / 4294967296 % 65536 ≡ e.own =
+    rw (above_code high e.kind e.own e.code h₁ h₂ h₃) (lower (high * 256 + e.kind) 65536 e.own h₂) in
+    let r : number high e.kind e.own e.code / 281474976710656 % 256 ≡ e.kind =
+    rw (above_own high e.kind e.own e.code h₁ h₂ h₃) (lower high 256 e.kind h₁) in
+    let t : number high e.kind e.own e.code / 72057594037927936 % 128 ≡ e.explicit =
+    rw (above_kind high e.kind e.own e.code h₁ h₂ h₃) (high_explicit e.simple e.explicit h) in
+    let u = high_simple e.simple e.explicit e.kind e.own e.code h h₁ h₂ h₃ in
+    λ i. record { code = p i; own = q i; kind = r i; explicit = t i; simple = u i }

@@ -11,24 +11,29 @@ use Rattle.octets.specs.Numbers.{two}
 use Rattle.table.specs.Syntax.{Tag, Member, Enumerated, Plain, Sequence, Set, SequenceOf, SetOf, Choice, Record, references, is_choice, constructed}
 use Rattle.table.specs.Octets.{kind}
 use Rattle.table.specs.Reading.{every_at}
-use Rattle.kinds.specs.Kinds.{octet_of}
-use Rattle.records.specs.Entries.{tag_count, tag_place, span_of, Entered, WithMembers, WithAlternatives, WithElements, WithNumbers}
+use Rattle.kinds.specs.Kinds.{octet_of, kind_of}
+use Rattle.records.specs.Entries.{unpacked, tag_count, tag_place, span_of, Entered, WithMembers, WithAlternatives, WithElements, WithNumbers}
+use Rattle.records.specs.Descriptors.{entry_of, described}
 use Rattle.records.specs.declared.entry.Entry.{Entry}
 use Rattle.records.proofs.Entries as entries
+use Rattle.records.proofs.Descriptors as descriptors
 
 -- An entry and its record: the kind by which the body goes, and its parts, which lie within the octets.
 
 module _ {b : List ℕ} {e : Entry} {r : Record} (x : Entered b e r) where
-  pub entered_kind : octet_of e.kind ≡ kind r.body
+  pub entered_kind : e.kind ≡ kind r.body
   entered_kind = entries.entered_kind x
 
-  pub kind_choice : eqb (octet_of e.kind) 50 ≡ is_choice r.body
+  pub entered_known : octet_of (kind_of e.kind) ≡ e.kind
+  entered_known = entries.entered_known x
+
+  pub kind_choice : eqb e.kind 50 ≡ is_choice r.body
   kind_choice = entries.kind_choice x
 
-  pub entered_span : let s = span_of b (octet_of e.kind) e.own in every_at s.step b s.first s.count ≡ references r.body
+  pub entered_span : let s = span_of b e.kind e.own in every_at s.step b s.first s.count ≡ references r.body
   entered_span = entries.entered_span x
 
-  pub part_inside : let s = span_of b (octet_of e.kind) e.own in (j : ℕ) → j < s.count → s.first + s.step * j < length b
+  pub part_inside : let s = span_of b e.kind e.own in (j : ℕ) → j < s.count → s.first + s.step * j < length b
   part_inside = entries.part_inside x
 
   pub entered_members : (ms : List Member) → (r.body ≡ Sequence ms) ⊎ (r.body ≡ Set ms) → WithMembers b e ms
@@ -55,3 +60,8 @@ module _ {b : List ℕ} {e : Entry} {r : Record} (x : Entered b e r) where
   pub entered_bit : (j : ℕ) → j < length r.tags
       → (ltb j e.explicit || not e.simple) ≡ (ltb (j + 1) (length r.tags) || constructed r.body)
   entered_bit = entries.entered_bit x
+
+-- The descriptor of its number is of the record too.
+
+pub entered_described : {b : List ℕ} {w : ℕ} {r : Record} → Entered b (unpacked w) r → Entered b (entry_of (described w)) r
+entered_described = descriptors.entered_described

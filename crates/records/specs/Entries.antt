@@ -9,17 +9,16 @@ use Rattle.table.specs.Syntax.{Tag, Member, Body, Plain, Sequence, Set, Sequence
 use Rattle.table.specs.Octets.{record_shaped}
 use Rattle.table.specs.Reading.{tags_at, numbers_at, members_at, every_at, body_at, own_at, own_end, table_in, count_in}
 use Rattle.table.specs.Fields.{constructed_of}
-use Rattle.kinds.specs.Kinds.{octet_of, place_of, kind_at, kind_of}
 use Rattle.records.specs.declared.entry.Entry.{Entry}
 use Rattle.records.specs.declared.entry.Span.{Span}
 
--- from the lowest: the code in 32 bits, the place of the own part in 16, the place of the kind in 8, the explicit tags in 7, simple or not in 1
+-- from the lowest: the code in 32 bits, the place of the own part in 16, the kind in 8, the explicit tags in 7, simple or not in 1
 unfoldable pub unpacked : ℕ → Entry
 unpacked w =
     record {
       code = w % 4294967296;
       own = w / 4294967296 % 65536;
-      kind = kind_at (w / 281474976710656 % 256);
+      kind = w / 281474976710656 % 256;
       explicit = w / 72057594037927936 % 128;
       simple = leb 9223372036854775808 w;
     }
@@ -31,7 +30,7 @@ high_octet false x = x
 
 -- an entry as one number, which `unpacked` takes apart again
 unfoldable pub packed : Entry → ℕ
-packed e = ((high_octet e.simple e.explicit * 256 + place_of e.kind) * 65536 + e.own) * 4294967296 + e.code
+packed e = ((high_octet e.simple e.explicit * 256 + e.kind) * 65536 + e.own) * 4294967296 + e.code
 
 -- the first identifier as a number: of the outermost tag, which is constructed unless it is the only one of a simple kind
 abbrev pub untagged : ℕ
@@ -70,7 +69,7 @@ entry_at b o =
     record {
       code = outermost_in b (o + 4) tags simple;
       own = own_at b o;
-      kind = kind_of kind;
+      kind = kind;
       explicit = if (eqb kind 50) tags λ _. all_but_last tags;
       simple = simple;
     }
@@ -78,7 +77,7 @@ entry_at b o =
 -- how many tags an entry has
 unfoldable pub tag_count : Entry → ℕ
 tag_count e =
-    if (eqb (octet_of e.kind) 50) e.explicit λ _.
+    if (eqb e.kind 50) e.explicit λ _.
     if (eqb e.explicit 127) 0 λ _. e.explicit + 1
 
 -- the place of the j-th
@@ -113,27 +112,27 @@ lists_number ns (negsuc k) = false
 
 -- the entry is of the record, whose own part ends within the octets
 pub record Entered (b : List ℕ) (e : Entry) (r : Record) : Type 0 where
-  pub body : body_at b (octet_of e.kind) e.own ≡ r.body
+  pub body : body_at b e.kind e.own ≡ r.body
   pub tags : tags_at b (e.own - 3 * length r.tags) (length r.tags) ≡ r.tags
   pub behind : 3 * length r.tags ≤ e.own
   pub few : length r.tags ≤ 4
   pub code : e.code ≡ first_code r
   pub explicit : e.explicit ≡ explicit_count r
   pub simple : e.simple ≡ not (constructed r.body)
-  pub some : 0 < own_end b (octet_of e.kind) e.own
-  pub ends : own_end b (octet_of e.kind) e.own ≤ length b
+  pub some : 0 < own_end b e.kind e.own
+  pub ends : own_end b e.kind e.own ≤ length b
 
 -- what the own part of the entry's record is, within the octets: members, alternatives, the one type of elements, the numbers of an ENUMERATED
 pub record WithMembers (b : List ℕ) (e : Entry) (ms : List Member) : Type 0 where
   pub is : members_at b (e.own + 1) (get_or b e.own 0) ≡ ms
-  pub span : span_of b (octet_of e.kind) e.own ≡ counted b e.own 2
+  pub span : span_of b e.kind e.own ≡ counted b e.own 2
   pub count : get_or b e.own 0 ≡ length ms
   pub few : length ms ≤ 16
   pub within : e.own + 1 + 2 * length ms ≤ length b
 
 pub record WithAlternatives (b : List ℕ) (e : Entry) (ts : List ℕ) : Type 0 where
   pub is : every_at 1 b (e.own + 1) (get_or b e.own 0) ≡ ts
-  pub span : span_of b (octet_of e.kind) e.own ≡ counted b e.own 1
+  pub span : span_of b e.kind e.own ≡ counted b e.own 1
   pub count : get_or b e.own 0 ≡ length ts
   pub some : 1 ≤ length ts
   pub few : length ts ≤ 16
@@ -141,7 +140,7 @@ pub record WithAlternatives (b : List ℕ) (e : Entry) (ts : List ℕ) : Type 0 
 
 pub record WithElements (b : List ℕ) (e : Entry) (t : ℕ) : Type 0 where
   pub is : get_or b e.own 0 ≡ t
-  pub span : span_of b (octet_of e.kind) e.own ≡ record { first = e.own; count = 1; step = 0 }
+  pub span : span_of b e.kind e.own ≡ record { first = e.own; count = 1; step = 0 }
   pub within : e.own < length b
 
 pub record WithNumbers (b : List ℕ) (e : Entry) (ns : List ℕ) : Type 0 where

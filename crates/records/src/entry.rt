@@ -4,13 +4,12 @@ ghost use Rattle.std.specs.Prelude.{◌≡◌, false, not, ◌&&◌, ◌||◌, �
 ghost use Rattle.octets.specs.Numbers.{two};
 ghost use Rattle.ber.specs.Codes.{code};
 ghost use Rattle.table.specs.Reading.{numbers_at};
-ghost use Rattle.kinds.specs.Kinds.{octet_of};
-ghost use Rattle.kinds.specs.declared.Kind.TheVariants.{Message};
 ghost use Rattle.records.specs.Entries.{unpacked, tag_count, tag_place, counted as Entries·counted, span_of, lists_number};
 
-use ber::identifier::code_of;
+use crate::descriptor;
+use crate::descriptor::of;
 use kinds::Kind;
-use octets::{holds, octet, two};
+use octets::octet;
 
 // No code of an identifier: it stands for the first identifier of a CHOICE without tags.
 pub const UNTAGGED: u32 = 67108864;
@@ -24,7 +23,7 @@ pub const LACKING: u8 = 127;
 pub struct Entry {
     pub code: u32,
     pub own: u16,
-    pub kind: Kind,
+    pub kind: u8,
     pub explicit: u8,
     pub simple: bool,
 }
@@ -36,7 +35,7 @@ pub fn unpack(w: u64) -> Entry
     Entry {
         code: first(w),
         own: (w / 4294967296 % 65536) as u16,
-        kind: Kind::at((w / 281474976710656 % 256) as u8),
+        kind: (w / 281474976710656 % 256) as u8,
         explicit: (w / 72057594037927936 % 128) as u8,
         simple: 9223372036854775808 <= w,
     }
@@ -52,44 +51,35 @@ pub fn first(w: u64) -> u32
 
 // The entry of a message of type t, in which one item stands.
 pub fn whole(t: u16) -> u64
-    ensures { unpacked result ≡ record { code = 0; own = t; kind = Message; explicit = 0; simple = false } }
+    ensures { unpacked result ≡ record { code = 0; own = t; kind = 51; explicit = 0; simple = false } }
 {
-    (Kind::Message.place() as u64 * 65536 + t as u64) * 4294967296
+    (Kind::Message.octet() as u64 * 65536 + t as u64) * 4294967296
 }
 
 // How many tags it has.
-#[tactic(auto, unfolding(crate::specs::Entries::tag_count))]
+#[tactic(auto, using(crate::proofs::Descriptors::count_kept))]
 pub fn tag_count(e: Entry) -> usize
     ensures { (result ≡ tag_count e) × (result < 257) }
 {
-    if e.kind == Kind::Choice {
-        return e.explicit as usize;
-    }
-    if e.explicit == LACKING {
-        return 0;
-    }
-    e.explicit as usize + 1
+    descriptor::tag_count(of(e))
 }
 
 // The place of its j-th tag.
+#[tactic(auto, using(crate::proofs::Descriptors::count_kept))]
 pub fn tag_place(e: Entry, j: usize) -> usize
     ensures { (result ≡ tag_place e j) × (result < 65536) }
 {
-    let back = 3 * tag_count(e).saturating_sub(j);
-    (e.own as usize).saturating_sub(back)
+    descriptor::tag_place(of(e), j)
 }
 
 // The code of its j-th tag; the explicit ones are constructed, the last one as its kind is.
+#[tactic(auto, using(crate::proofs::Descriptors::count_kept))]
 pub fn tag_code(table: &[u8], e: Entry, j: usize) -> u32
     ensures { let p = tag_place e j in
         let b = table.now in
         result ≡ code (get_or b p 0) (ltb j e.explicit || not e.simple) (two b (p + 1)) }
 {
-    let p = tag_place(e, j);
-    let class = octet(table, p);
-    let n = two(table, p + 1);
-    let constructed = j < e.explicit as usize || !e.simple;
-    code_of(class as u8, constructed, n as u16)
+    descriptor::tag_code(table, of(e), j)
 }
 
 // The parts of a record that is not simple: its members, its alternatives, or the one type of its elements. The place of the first,
@@ -102,7 +92,7 @@ pub struct Span {
 }
 
 // As many parts as the octet at p says, behind it, each `step` behind the one before.
-fn counted(table: &[u8], p: usize, step: usize) -> Span
+pub(crate) fn counted(table: &[u8], p: usize, step: usize) -> Span
     requires { p < 65536 }
     ensures { result ≡ Entries·counted table.now p step }
 {
@@ -117,33 +107,15 @@ fn counted(table: &[u8], p: usize, step: usize) -> Span
 pub fn alternatives(table: &[u8], e: Entry) -> Span
     ensures { result ≡ Entries·counted table.now e.own 1 }
 {
-    counted(table, e.own as usize, 1)
+    descriptor::alternatives(table, of(e))
 }
 
 // The parts of any; a message has none in the table.
-#[tactic(auto, unfolding(crate::specs::Entries::span_of))]
+#[tactic(auto, using(crate::proofs::Descriptors::span_kept))]
 pub fn parts(table: &[u8], e: Entry) -> Span
-    ensures { result ≡ span_of table.now (octet_of e.kind) e.own }
+    ensures { result ≡ span_of table.now e.kind e.own }
 {
-    let own = e.own as usize;
-    if e.kind.has_members() {
-        return counted(table, own, 2);
-    }
-    if e.kind == Kind::Choice {
-        return counted(table, own, 1);
-    }
-    if e.kind.is_list() {
-        return Span {
-            first: own,
-            count: 1,
-            step: 0,
-        };
-    }
-    Span {
-        first: own,
-        count: 0,
-        step: 0,
-    }
+    descriptor::parts(table, of(e))
 }
 
 // The record number of the j-th part; after the table 0. A place that is too large for a number wraps.
@@ -168,21 +140,5 @@ pub fn lists(table: &[u8], e: Entry, z: i64) -> bool
         let n = get_or b e.own 0 in
         result ≡ (leb (e.own + 1 + 2 * n) (length b) && lists_number (numbers_at b (e.own + 1) n) z) }
 {
-    let Ok(k) = u64::try_from(z) else {
-        return false;
-    };
-    let own = e.own as usize;
-    let n = octet(table, own);
-    let from = own + 1;
-    if !holds(table, from, 2 * n) {
-        return false;
-    }
-    for i in 0..n {
-        let at = from + 2 * i;
-        let second = at + 1;
-        if table[at] as u64 * 256 + table[second] as u64 == k {
-            return true;
-        }
-    }
-    false
+    descriptor::lists(table, of(e), z)
 }

@@ -2,7 +2,7 @@
 -- Assumes nothing.
 use Rattle.std.proofs.Common.{sym, ◌∙◌, arith}
 use Rattle.records.proofs.Listed.{listed_stops, listed_goes, listed_ends, listed_in}
-use Rattle.records.proofs.entry.lists.Goals as goal
+use Rattle.records.proofs.descriptor.lists.Goals as goal
 
 pub returns-then-table-at : goal.returns-then-table-at
 returns-then-table-at c =

@@ -3,7 +3,7 @@
 use Rattle.std.proofs.Common.{◌≡◌, ◌+◌, ◌-◌, ◌*◌, eqb}
 use Rattle.octets.specs.Lists.{any}
 use Rattle.table.specs.Reading.{numbers_at}
-use Rattle.records.proofs.entry.lists.Given as goal
+use Rattle.records.proofs.descriptor.lists.Given as goal
 
 abbrev pub invariant-loop-i : goal.invariant-loop-i
 invariant-loop-i l =
