@@ -21,8 +21,11 @@ use Rattle.table.proofs.Fields.{universal_of_lem}
 use Rattle.table.proofs.Scan.{look_beyond}
 use Rattle.kinds.specs.Kinds.{octet_of}
 use Rattle.records.specs.Entries.{unpacked, all_but_last, explicit_count, tag_place, has_members, counted, span_of, Entered, Near, Filled}
+use Rattle.records.specs.Descriptors.{described, Describes}
 use Rattle.records.specs.declared.entry.Entry.{Entry}
+use Rattle.records.specs.declared.descriptor.Descriptor.{Descriptor}
 use Rattle.records.specs.declared.entry.Span.{Span}
+use Rattle.records.proofs.Promises.{describes}
 use Rattle.records.proofs.Entries.{kind_choice, kind_members, entered_members, entered_span, entered_choice, entered_tags}
 
 -- what a count stands before lies near, and so does the span of any kind
@@ -66,10 +69,10 @@ tag_places own m n l h = (omega arith, omega arith)
 
 -- the rule over what an entry says
 data Ruled (b : List ℕ) (e : Entry) (w : Bool) : Type 0 where
-  of_choice : eqb (octet_of e.kind) 50 ≡ true → (e.explicit ≡ 127 → ⊥) → w ≡ any (λ c. eqb c 0) (every_at 3 b (tag_place e 0) e.explicit) → Ruled b e w
+  of_choice : eqb e.kind 50 ≡ true → (e.explicit ≡ 127 → ⊥) → w ≡ any (λ c. eqb c 0) (every_at 3 b (tag_place e 0) e.explicit) → Ruled b e w
   lacking : e.explicit ≡ 127 → w ≡ true → Ruled b e w
-  of_other : eqb (octet_of e.kind) 50 ≡ false → (e.explicit ≡ 127 → ⊥)
-      → w ≡ (any (λ c. eqb c 0) (every_at 3 b (tag_place e 0) e.explicit) || wrong_own b (universal_of (octet_of e.kind)) (tag_place e e.explicit)) → Ruled b e w
+  of_other : eqb e.kind 50 ≡ false → (e.explicit ≡ 127 → ⊥)
+      → w ≡ (any (λ c. eqb c 0) (every_at 3 b (tag_place e 0) e.explicit) || wrong_own b (universal_of e.kind) (tag_place e e.explicit)) → Ruled b e w
 
 module _ {b : List ℕ} {e : Entry} {r : Record} (x : Entered b e r) where
   -- a record without tags that keeps the rule of tags is a CHOICE
@@ -103,8 +106,8 @@ module _ {b : List ℕ} {e : Entry} {r : Record} (x : Entered b e r) where
 
   -- the ways through the code that finds a finite value
   module _ (m : ℕ → Bool) where
-    pub finite_members : (eqb (octet_of e.kind) 16 || eqb (octet_of e.kind) 17) ≡ true
-        → let s = span_of b (octet_of e.kind) e.own in all (λ y. y.optional || m y.type) (members_at b s.first s.count) ≡ finite_body m r.body
+    pub finite_members : (eqb e.kind 16 || eqb e.kind 17) ≡ true
+        → let s = span_of b e.kind e.own in all (λ y. y.optional || m y.type) (members_at b s.first s.count) ≡ finite_body m r.body
     unfolding has_members finite_body
     finite_members h = by r.body refl
       where
@@ -112,7 +115,7 @@ module _ {b : List ℕ} {e : Entry} {r : Record} (x : Entered b e r) where
         k = sym (kind_members x) ∙ h
 
         by : (y : Body) → r.body ≡ y
-            → let s = span_of b (octet_of e.kind) e.own in all (λ y. y.optional || m y.type) (members_at b s.first s.count) ≡ finite_body m r.body
+            → let s = span_of b e.kind e.own in all (λ y. y.optional || m y.type) (members_at b s.first s.count) ≡ finite_body m r.body
         by (Plain s) q = absurd (false≢true (rw q at k))
         by (Sequence ms) q = let w = entered_members x ms (inl q) in rw (w.span, w.is, q)
         by (Set ms) q = let w = entered_members x ms (inr q) in rw (w.span, w.is, q)
@@ -120,7 +123,7 @@ module _ {b : List ℕ} {e : Entry} {r : Record} (x : Entered b e r) where
         by (SetOf u) q = absurd (false≢true (rw q at k))
         by (Choice ts) q = absurd (false≢true (rw q at k))
 
-    pub finite_choice : eqb (octet_of e.kind) 50 ≡ true → any m (every_at 1 b (e.own + 1) (get_or b e.own 0)) ≡ finite_body m r.body
+    pub finite_choice : eqb e.kind 50 ≡ true → any m (every_at 1 b (e.own + 1) (get_or b e.own 0)) ≡ finite_body m r.body
     unfolding is_choice finite_body
     finite_choice h = by r.body refl
       where
@@ -135,7 +138,7 @@ module _ {b : List ℕ} {e : Entry} {r : Record} (x : Entered b e r) where
         by (SetOf u) q = absurd (false≢true (rw q at k))
         by (Choice ts) q = rw ((entered_choice x ts q).is, q)
 
-    pub finite_other : (eqb (octet_of e.kind) 16 || eqb (octet_of e.kind) 17) ≡ false → eqb (octet_of e.kind) 50 ≡ false → true ≡ finite_body m r.body
+    pub finite_other : (eqb e.kind 16 || eqb e.kind 17) ≡ false → eqb e.kind 50 ≡ false → true ≡ finite_body m r.body
     unfolding has_members is_choice finite_body
     finite_other h i = by r.body refl
       where
@@ -168,7 +171,7 @@ module _ {b : List ℕ} {e : Entry} {r : Record} (x : Entered b e r) where
       let k = last_left n (length r.tags) e.explicit l (all_but_last_lem c) in
       let (p, q) = tag_places e.own (length r.tags) n l x.behind in
       let d : tags_at b (e.own - 3 * suc n) (suc n) ≡ r.tags = ap (λ m. tags_at b (e.own - 3 * m) m) (sym l) ∙ x.tags in
-      let u = rw x.body at (universal_of_lem b (octet_of e.kind) e.own) in
+      let u = rw x.body at (universal_of_lem b e.kind e.own) in
       let w = rw (d, p, q, u) at (wrong_other r.body c b (e.own - 3 * suc n) n) in
       of_other (kind_choice x ∙ c) (λ z. omega (arith, z, k, l, x.few)) (rw (entered_tags x, k) w)
 
@@ -201,7 +204,7 @@ module _ {b : List ℕ} {e : Entry} {r : Record} (x : Entered b e r) where
         by (of_other k n q) = sym (q ∙ rw h)
 
     module _ (h : any (λ c. eqb c 0) (every_at 3 b (tag_place e 0) e.explicit) ≡ false) where
-      pub wrong_none : eqb (octet_of e.kind) 50 ≡ true → false ≡ wrong_tags r.body r.tags
+      pub wrong_none : eqb e.kind 50 ≡ true → false ≡ wrong_tags r.body r.tags
       wrong_none i = by ruled
         where
           by : {w : Bool} → Ruled b e w → false ≡ w
@@ -209,10 +212,10 @@ module _ {b : List ℕ} {e : Entry} {r : Record} (x : Entered b e r) where
           by (lacking n q) = absurd (l n)
           by (of_other k n q) = absurd (true≢false (sym i ∙ k))
 
-      pub wrong_own_lem : eqb (octet_of e.kind) 50 ≡ false → wrong_own b (universal_of (octet_of e.kind)) (tag_place e e.explicit) ≡ wrong_tags r.body r.tags
+      pub wrong_own_lem : eqb e.kind 50 ≡ false → wrong_own b (universal_of e.kind) (tag_place e e.explicit) ≡ wrong_tags r.body r.tags
       wrong_own_lem i = by ruled
         where
-          by : {w : Bool} → Ruled b e w → wrong_own b (universal_of (octet_of e.kind)) (tag_place e e.explicit) ≡ w
+          by : {w : Bool} → Ruled b e w → wrong_own b (universal_of e.kind) (tag_place e e.explicit) ≡ w
           by (of_choice k n q) = absurd (true≢false (sym k ∙ i))
           by (lacking n q) = absurd (l n)
           by (of_other k n q) = sym (q ∙ rw h)
@@ -222,13 +225,13 @@ pub filled_beyond : {b index : List ℕ} {n : ℕ} → Filled b index n → (t :
 filled_beyond {b} x t h = look_beyond b (scan b).offsets t x.short (rw x.count at h)
 
 -- the entry that the code reads for record t, and what its parts span
-module _ {b index : List ℕ} {n : ℕ} (x : Filled b index n) (t : ℕ) (h : t < n) {e : Entry} (d : e ≡ unpacked (get_or index t 0)) where
-  pub entry_at : Entered b e (table_in b t)
-  entry_at = rw d (x.entered t h)
+module _ {b index : List ℕ} {n : ℕ} (x : Filled b index n) (t : ℕ) (h : t < n) {e : Descriptor} (d : e ≡ described (get_or index t 0)) where
+  pub entry_at : Describes b e (table_in b t)
+  entry_at = rw d (describes _ (x.entered t h))
 
   pub span_near : Octets b → {s : Span} → s ≡ span_of b (octet_of e.kind) e.own → Near s
-  unfolding unpacked
+  unfolding described unpacked
   span_near o q = rw q (near_span b (octet_of e.kind) e.own o (rw d (omega arith)))
 
   pub span_named : {s : Span} → s ≡ span_of b (octet_of e.kind) e.own → every_at s.step b s.first s.count ≡ references (table_in b t).body
-  span_named q = rw q (entered_span entry_at)
+  span_named q = rw q (entered_span entry_at.entered)

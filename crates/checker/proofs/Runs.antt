@@ -21,7 +21,6 @@ use Rattle.table.specs.Octets.{kind}
 use Rattle.table.specs.Rules.{siblings, runs_on, Clash}
 use Rattle.table.specs.Reading.{members_at, every_at, table_in, count_in}
 use Rattle.table.proofs.Pieces.{length_every, types_every}
-use Rattle.kinds.specs.Kinds.{octet_of}
 use Rattle.records.specs.Entries.{has_members, span_of, Entered, WithMembers}
 use Rattle.records.specs.declared.entry.Entry.{Entry}
 use Rattle.records.specs.declared.entry.Span.{Span}
@@ -243,16 +242,16 @@ named_clash T (Choice ts) h = (clash_same (λ k _. refl), clash_same (λ k _. re
 
 module _ (T : Table) {b : List ℕ} {e : Entry} {r : Record} (x : Entered b e r) where
   abbrev its : Span
-  its = span_of b (octet_of e.kind) e.own
+  its = span_of b e.kind e.own
 
   abbrev Its : Type 0
   Its = Clash T (siblings r.body) (runs_on r.body)
 
-  pub other_clash : ((octet_of e.kind) ≡ 16 → ⊥) → Clash T (every_at its.step b its.first its.count) (λ k. true) ↔ Its
+  pub other_clash : (e.kind ≡ 16 → ⊥) → Clash T (every_at its.step b its.first its.count) (λ k. true) ↔ Its
   other_clash h = rw (entered_span x) (named_clash T r.body (λ q. h (entered_kind x ∙ q)))
 
   -- a SEQUENCE has its members in the table
-  its_members : octet_of e.kind ≡ 16 → (ms : List Member) × (r.body ≡ Sequence ms) × WithMembers b e ms
+  its_members : e.kind ≡ 16 → (ms : List Member) × (r.body ≡ Sequence ms) × WithMembers b e ms
   unfolding kind has_members
   its_members h = by r.body refl
     where
@@ -267,10 +266,10 @@ module _ (T : Table) {b : List ℕ} {e : Entry} {r : Record} (x : Entered b e r)
       by (SetOf t) q = absurd (false≢true (rw q at k))
       by (Choice ts) q = absurd (false≢true (rw q at k))
 
-  pub sequence_step : octet_of e.kind ≡ 16 → its.step ≡ 2
+  pub sequence_step : e.kind ≡ 16 → its.step ≡ 2
   sequence_step h = let (ms, q, w) = its_members h in rw w.span
 
-  pub sequence_clash : octet_of e.kind ≡ 16 → Clash T (every_at 2 b its.first its.count) (optional_in b its.first) ↔ Its
+  pub sequence_clash : e.kind ≡ 16 → Clash T (every_at 2 b its.first its.count) (optional_in b its.first) ↔ Its
   unfolding siblings references runs_on
   sequence_clash h =
       let (ms, q, w) = its_members h in

@@ -28,8 +28,9 @@ use Rattle.table.specs.Walk.{like, Hits, Walks, Straight}
 use Rattle.table.proofs.Nodes.{hits_reaches, reaches_hits, first_record, first_hits}
 use Rattle.table.proofs.Walk.{Kept, kept, newly, keeps, complete}
 use Rattle.kinds.specs.Kinds.{octet_of}
-use Rattle.records.specs.Entries.{unpacked, span_of, Filled}
-use Rattle.records.specs.declared.entry.Entry.{Entry}
+use Rattle.records.specs.Entries.{span_of, Filled}
+use Rattle.records.specs.Descriptors.{described}
+use Rattle.records.specs.declared.descriptor.Descriptor.{Descriptor}
 use Rattle.records.specs.declared.entry.Span.{Span}
 use Rattle.checker.specs.Gathering.{Met, GatheredUnder, Compares, optional_in}
 use Rattle.checker.proofs.Rules.{entry_at, span_near, span_named}
@@ -199,7 +200,7 @@ pub named_few : (r : Record) (step : ℕ) (b : List ℕ) (p n : ℕ) → record_
 named_few r step b p n s e = omega (arith, few_named r.body (limits r s).shaped, ap length e, length_every step b p n)
 
 -- the parts of record t, in the code's hands: what comparing them needs, and what it says of the record
-module _ {b index : List ℕ} (x : Filled b index (count_in b)) {t : ℕ} (h : t < count_in b) {e : Entry} (d : e ≡ unpacked (get_or index t 0)) {s : Span}
+module _ {b index : List ℕ} (x : Filled b index (count_in b)) {t : ℕ} (h : t < count_in b) {e : Descriptor} (d : e ≡ described (get_or index t 0)) {s : Span}
     (q : s ≡ span_of b (octet_of e.kind) e.own) where
   pub compares : Octets b → Straight (table_in b) (count_in b) → Compares b s
   compares o y =
@@ -214,14 +215,14 @@ module _ {b index : List ℕ} (x : Filled b index (count_in b)) {t : ℕ} (h : t
       }
 
   pub members_two_apart : octet_of e.kind ≡ 16 → s.step ≡ 2
-  members_two_apart k = rw q (sequence_step (table_in b) (entry_at x t h d) k)
+  members_two_apart k = rw q (sequence_step (table_in b) (entry_at x t h d).entered k)
 
   pub of_sequence : octet_of e.kind ≡ 16 → {z : Bool}
       → (let C = Clash (table_in b) (every_at 2 b s.first s.count) (optional_in b s.first) in (z ≡ true → C) × (z ≡ false → C → ⊥))
       → (z ≡ true → Sharing (table_in b) t) × (z ≡ false → Sharing (table_in b) t → ⊥)
-  of_sequence k = asked (rw q (sequence_clash (table_in b) (entry_at x t h d) k))
+  of_sequence k = asked (rw q (sequence_clash (table_in b) (entry_at x t h d).entered k))
 
   pub of_other : ((octet_of e.kind) ≡ 16 → ⊥) → {z : Bool}
       → (let C = Clash (table_in b) (every_at s.step b s.first s.count) (λ k. true) in (z ≡ true → C) × (z ≡ false → C → ⊥))
       → (z ≡ true → Sharing (table_in b) t) × (z ≡ false → Sharing (table_in b) t → ⊥)
-  of_other k = asked (rw q (other_clash (table_in b) (entry_at x t h d) k))
+  of_other k = asked (rw q (other_clash (table_in b) (entry_at x t h d).entered k))

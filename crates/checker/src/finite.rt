@@ -6,12 +6,14 @@ ghost use Rattle.table.specs.Syntax.{Record};
 ghost use Rattle.table.specs.Reading.{members_at, every_at, table_in};
 ghost use Rattle.table.specs.Decide.{finite_body, infinite};
 ghost use Rattle.checker.specs.Marks.{is_flagged, Looked};
-ghost use Rattle.records.specs.Entries.{Near, Entered};
+ghost use Rattle.records.specs.Entries.{Near};
+ghost use Rattle.records.specs.Descriptors.{Describes};
 
 use crate::index::Indexed;
 use kinds::Kind;
 use octets::octet;
-use records::entry::{Entry, Span, alternatives, optional, parts, unpack};
+use records::descriptor::{Descriptor, alternatives, describe, parts};
+use records::entry::{Span, optional};
 
 // Whether record t is flagged; a number that is not there is not.
 #[tactic(auto, using(crate::proofs::Marks::flagged_beyond), unfolding(crate::specs::Marks::is_flagged))]
@@ -41,8 +43,8 @@ fn one_flagged(table: &[u8], flags: &[u8; 128], s: Span) -> bool
 }
 
 // Whether a record has a finite value, if the flagged ones have.
-fn found(table: &[u8], flags: &[u8; 128], e: Entry) -> bool
-    ensures { (x : Record) → Entered table.now e x → result ≡ finite_body (is_flagged flags.now) x.body }
+fn found(table: &[u8], flags: &[u8; 128], e: Descriptor) -> bool
+    ensures { (x : Record) → Describes table.now e x → result ≡ finite_body (is_flagged flags.now) x.body }
 {
     match e.kind {
         Kind::Sequence | Kind::Set => each_flagged(table, flags, parts(table, e)),
@@ -57,7 +59,7 @@ fn round(w: &Indexed, flags: &mut [u8; 128]) -> bool
 {
     let mut more = false;
     for t in (0..w.count).rev() {
-        if flags[t] == 0 && found(w.table, flags, unpack(w.index[t])) {
+        if flags[t] == 0 && found(w.table, flags, describe(w.index[t])) {
             flags[t] = 1;
             more = true;
         }

@@ -57,7 +57,7 @@ fn explicit(kind: Kind, tags: u8) -> u8
 
 // An entry as one number.
 #[tactic(auto, unfolding(records::specs::Entries::packed))]
-fn pack(code: u32, own: u16, kind: Kind, explicit: u8, simple: bool) -> u64
+fn pack(code: u32, own: u16, kind: u8, explicit: u8, simple: bool) -> u64
     requires { explicit < 128 }
     ensures { result ≡ packed (record { code = code; own = own; kind = kind; explicit = explicit; simple = simple }) }
 {
@@ -66,7 +66,7 @@ fn pack(code: u32, own: u16, kind: Kind, explicit: u8, simple: bool) -> u64
     } else {
         explicit as u64
     };
-    ((high * 256 + kind.place() as u64) * 65536 + own as u64) * 4294967296 + code as u64
+    ((high * 256 + kind as u64) * 65536 + own as u64) * 4294967296 + code as u64
 }
 
 // The entry of the record at o, which is shaped.
@@ -81,7 +81,7 @@ fn entry(table: &[u8], o: usize) -> u64
     let own = p + 3 * tags as usize;
     let simple = !kind.constructed();
     let code = outermost(table, simple, tags, p);
-    pack(code, own as u16, kind, explicit(kind, tags), simple)
+    pack(code, own as u16, kind.octet(), explicit(kind, tags), simple)
 }
 
 // What is wrong with a table whose record t is not shaped, or where octets follow 128 records.

@@ -5,11 +5,13 @@ ghost use Rattle.octets.specs.Numbers.{if_below};
 ghost use Rattle.table.specs.Reading.{every_at, table_in};
 ghost use Rattle.table.specs.Decide.{dangling};
 ghost use Rattle.table.specs.Syntax.{Record, references};
-ghost use Rattle.records.specs.Entries.{Near, Entered};
+ghost use Rattle.records.specs.Entries.{Near};
+ghost use Rattle.records.specs.Descriptors.{Describes};
 
 use crate::index::Indexed;
 use octets::octet;
-use records::entry::{Entry, Span, parts, unpack};
+use records::descriptor::{Descriptor, describe, parts};
+use records::entry::Span;
 
 // Whether one of the parts has a number that is not below n.
 fn dangling(table: &[u8], s: Span, n: usize) -> bool
@@ -20,8 +22,8 @@ fn dangling(table: &[u8], s: Span, n: usize) -> bool
 }
 
 // Whether a record names such a number; a simple one names none.
-fn names_beyond(table: &[u8], e: Entry, n: usize) -> bool
-    ensures { (x : Record) → Entered table.now e x → result ≡ any (λ y. leb n y) (references x.body) }
+fn names_beyond(table: &[u8], e: Descriptor, n: usize) -> bool
+    ensures { (x : Record) → Describes table.now e x → result ≡ any (λ y. leb n y) (references x.body) }
 {
     if e.simple {
         return false;
@@ -33,5 +35,5 @@ fn names_beyond(table: &[u8], e: Entry, n: usize) -> bool
 pub(crate) fn lowest(w: &Indexed) -> Option<usize>
     ensures { let n = w.now.count in result ≡ if_below n (lowest (dangling (table_in w.now.table.now) n) n) }
 {
-    (0..w.count).find(|&t| names_beyond(w.table, unpack(w.index[t]), w.count))
+    (0..w.count).find(|&t| names_beyond(w.table, describe(w.index[t]), w.count))
 }

@@ -7,16 +7,18 @@ ghost use Rattle.table.specs.Reading.{every_at, table_in};
 ghost use Rattle.table.specs.Fields.{universal_of};
 ghost use Rattle.table.specs.Decide.{wrong_tags, mistagged};
 ghost use Rattle.kinds.specs.Kinds.{octet_of};
-ghost use Rattle.records.specs.Entries.{tag_place, Entered};
+ghost use Rattle.records.specs.Entries.{tag_place};
+ghost use Rattle.records.specs.Descriptors.{entry_of, Describes};
 
 use crate::index::Indexed;
 use kinds::Kind;
 use octets::{octet, two};
-use records::entry::{Entry, LACKING, tag_place, unpack};
+use records::descriptor::{Descriptor, describe, tag_place};
+use records::entry::LACKING;
 
 // Whether one of the explicit tags is UNIVERSAL.
-fn explicit_universal(table: &[u8], e: Entry) -> bool
-    ensures { result ≡ any (λ x. eqb x 0) (every_at 3 table.now (tag_place e 0) e.explicit) }
+fn explicit_universal(table: &[u8], e: Descriptor) -> bool
+    ensures { result ≡ any (λ x. eqb x 0) (every_at 3 table.now (tag_place (entry_of e) 0) e.explicit) }
 {
     let p = tag_place(e, 0);
     (0..e.explicit as usize).any(|k| octet(table, p + 3 * k) == 0)
@@ -34,8 +36,8 @@ fn wrong_own(table: &[u8], kind: Kind, p: usize) -> bool
 }
 
 // Whether the tags of a record break the rule.
-fn wrong(table: &[u8], e: Entry) -> bool
-    ensures { (x : Record) → Entered table.now e x → result ≡ wrong_tags x.body x.tags }
+fn wrong(table: &[u8], e: Descriptor) -> bool
+    ensures { (x : Record) → Describes table.now e x → result ≡ wrong_tags x.body x.tags }
 {
     if e.explicit == LACKING {
         return true;
@@ -53,5 +55,5 @@ fn wrong(table: &[u8], e: Entry) -> bool
 pub(crate) fn lowest(w: &Indexed) -> Option<usize>
     ensures { let n = w.now.count in result ≡ if_below n (lowest (mistagged (table_in w.now.table.now)) n) }
 {
-    (0..w.count).find(|&t| wrong(w.table, unpack(w.index[t])))
+    (0..w.count).find(|&t| wrong(w.table, describe(w.index[t])))
 }

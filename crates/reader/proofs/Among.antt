@@ -16,8 +16,9 @@ use Rattle.table.specs.Syntax.{Record, Table, references}
 use Rattle.table.specs.Passes.{Nested}
 use Rattle.table.specs.Rules.{siblings}
 use Rattle.table.specs.Reading.{every_at, table_in, count_in}
-use Rattle.records.specs.Entries.{unpacked, counted}
-use Rattle.records.specs.declared.entry.Entry.{Entry}
+use Rattle.records.specs.Entries.{counted}
+use Rattle.records.specs.Descriptors.{described}
+use Rattle.records.specs.declared.descriptor.Descriptor.{Descriptor}
 use Rattle.records.specs.declared.entry.Span.{Span}
 use Rattle.records.proofs.Promises.{entered_choice}
 use Rattle.reader.specs.Codes.{first_of, untagged, starts_with, under}
@@ -26,7 +27,7 @@ use Rattle.reader.specs.Records.{Begins, Finds}
 use Rattle.reader.proofs.Begun.{Fit, bare, first_most, fit, nested, nested_all}
 use Rattle.reader.proofs.ItemsWay.{Looking, look_first, look_found, look_down, look_next, look_none, look_back, look_above, look_deep}
 use Rattle.reader.proofs.ItemsWay.{turns_left, fewer_down, fewer_next, fewer_back, search_here, search_other}
-use Rattle.checker.proofs.Ready.{Ready}
+use Rattle.checker.proofs.Ready.{Ready, described_in}
 
 every_at_lem : (b : List ℕ) (p n j : ℕ) → j < n → get_or (every_at 1 b p n) j 0 ≡ get_or b (p + j) 0
 unfolding every_at
@@ -54,21 +55,21 @@ module _ {b ix : List ℕ} (R : Ready b ix) where
   abbrev F : (t : ℕ) → Fit (T t)
   F = fit b T (count_in b) R.passes
 
-  pub code_is : (a f : ℕ) → a < count_in b → f ≡ (unpacked (get_or ix a 0)).code → f ≡ first_of (T a)
-  code_is a f h e = e ∙ (R.filled.entered a h).code
+  pub code_is : (a f : ℕ) → a < count_in b → f ≡ (described (get_or ix a 0)).code → f ≡ first_of (T a)
+  code_is a f h e = e ∙ (described_in R a h).entered.code
 
-  pub code_most : (a : ℕ) → a < count_in b → (unpacked (get_or ix a 0)).code ≤ untagged
-  code_most a h = let q = first_most (T a) (F a) in omega (arith, (R.filled.entered a h).code, q)
+  pub code_most : (a : ℕ) → a < count_in b → (described (get_or ix a 0)).code ≤ untagged
+  code_most a h = let q = first_most (T a) (F a) in omega (arith, (described_in R a h).entered.code, q)
 
   pub starts_is : (code a : ℕ) (g : Bool) → a < count_in b → Begins (get_or ix a 0) code g → g ≡ starts_with (T a) code
-  starts_is code a g h e = e b (T a) (R.filled.entered a h)
+  starts_is code a g h e = e b (T a) (described_in R a h)
 
-  pub alternatives_of : (x : ℕ) (s : Span) → x < count_in b → first_of (T x) ≡ untagged → s ≡ counted b (unpacked (get_or ix x 0)).own 1 → Alternatives b x s
+  pub alternatives_of : (x : ℕ) (s : Span) → x < count_in b → first_of (T x) ≡ untagged → s ≡ counted b (described (get_or ix x 0)).own 1 → Alternatives b x s
   unfolding siblings
   alternatives_of x s h e q =
       let y = bare (T x) (F x) e in
-      let w = entered_choice (R.filled.entered x h) y.alternatives y.is in
-      let o = (unpacked (get_or ix x 0)).own in
+      let w = entered_choice (described_in R x h).entered y.alternatives y.is in
+      let o = (described (get_or ix x 0)).own in
       let l = R.filled.short in
       let p : siblings (T x).body ≡ y.alternatives = ap siblings y.is in
       rw q
@@ -107,7 +108,7 @@ module _ {b ix : List ℕ} (R : Ready b ix) where
       (search_here T F (nested_all b T (count_in b) R.passes) code (λ z. omega arith) t q, here, q, h)
 
   pub seek_other : (code : ℕ) (way : List ℕ) (t : ℕ) (g : Bool) (f : ℕ) → code < untagged → t < count_in b → Begins (get_or ix t 0) code g → g ≡ false
-      → f ≡ (unpacked (get_or ix t 0)).code → (f ≡ untagged → ⊥) → Finds b code way t None
+      → f ≡ (described (get_or ix t 0)).code → (f ≡ untagged → ⊥) → Finds b code way t None
   seek_other code way t g f tag h eg e ef n =
       search_other T F (nested_all b T (count_in b) R.passes) code (λ z. omega arith) t (sym (starts_is code t g h eg) ∙ e) (λ z. n (code_is t f h ef ∙ z))
 
@@ -117,10 +118,10 @@ pub record Turn (b ix : List ℕ) (code : ℕ) (way : List ℕ) (t d x j : ℕ) 
   pub tag : code < untagged
   pub wide : length way ≡ 128
   pub amid : Amid b code way t d x j
-  pub spans : s ≡ counted b (unpacked (get_or ix x 0)).own 1
+  pub spans : s ≡ counted b (described (get_or ix x 0)).own 1
 
-pub turn_at : {b ix : List ℕ} {code : ℕ} {way : List ℕ} {t d x j : ℕ} {e : Entry} {s : Span} → Ready b ix → code < untagged → length way ≡ 128
-    → Amid b code way t d x j → e ≡ unpacked (get_or ix x 0) → s ≡ counted b e.own 1 → Turn b ix code way t d x j s
+pub turn_at : {b ix : List ℕ} {code : ℕ} {way : List ℕ} {t d x j : ℕ} {e : Descriptor} {s : Span} → Ready b ix → code < untagged → length way ≡ 128
+    → Amid b code way t d x j → e ≡ described (get_or ix x 0) → s ≡ counted b e.own 1 → Turn b ix code way t d x j s
 turn_at R h l a e q = record { ready = R; tag = h; wide = l; amid = a; spans = rw e at q }
 
 module _ {b ix : List ℕ} {code : ℕ} {way : List ℕ} {t d x j : ℕ} {s : Span} (P : Turn b ix code way t d x j s) where
@@ -178,10 +179,10 @@ module _ {b ix : List ℕ} {code : ℕ} {way : List ℕ} {t d x j : ℕ} {s : Sp
           let y = look_found Tb Fb N code not_tag way t d x j P.amid.looking within next.few room_way (sym its_start ∙ e) in
           rw (add-one, is_part) (y.0, y.1, sym its_start ∙ e, rw is_part at next.small)
 
-      its_first : (f : ℕ) → f ≡ (unpacked (get_or ix a 0)).code → f ≡ first_of (Tb (get_or (siblings (Tb x).body) j 0))
+      its_first : (f : ℕ) → f ≡ (described (get_or ix a 0)).code → f ≡ first_of (Tb (get_or (siblings (Tb x).body) j 0))
       its_first f ef = code_is P.ready a f next.small ef ∙ ap (λ (u : ℕ). first_of (Tb u)) is_part
 
-      pub among_down : (f : ℕ) → f ≡ (unpacked (get_or ix a 0)).code → f ≡ untagged → Amid b code Noted t (d + 1) a 0
+      pub among_down : (f : ℕ) → f ≡ (described (get_or ix a 0)).code → f ≡ untagged → Amid b code Noted t (d + 1) a 0
       among_down f ef e =
           rw (add-one, is_part)
           (record {
@@ -190,7 +191,7 @@ module _ {b ix : List ℕ} {code : ℕ} {way : List ℕ} {t d x j : ℕ} {s : Sp
             deep = omega (arith, next.deep);
           })
 
-      pub among_next : g ≡ false → (f : ℕ) → f ≡ (unpacked (get_or ix a 0)).code → (f ≡ untagged → ⊥) → Amid b code Noted t d x (j + 1)
+      pub among_next : g ≡ false → (f : ℕ) → f ≡ (described (get_or ix a 0)).code → (f ≡ untagged → ⊥) → Amid b code Noted t d x (j + 1)
       among_next e f ef n =
           rw add-one
           (record {

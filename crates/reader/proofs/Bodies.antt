@@ -18,8 +18,8 @@ use Rattle.table.specs.Octets.{kind}
 use Rattle.table.specs.Rules.{members}
 use Rattle.table.specs.Reading.{body_at, table_in, count_in}
 use Rattle.kinds.specs.Kinds.{octet_of}
-use Rattle.records.specs.Entries.{unpacked}
-use Rattle.records.specs.declared.entry.Entry.{Entry}
+use Rattle.records.specs.Descriptors.{described}
+use Rattle.records.specs.declared.descriptor.Descriptor.{Descriptor}
 use Rattle.records.proofs.Promises.{kind_choice, entered_kind, entered_members}
 use Rattle.coding.specs.Tags.{own_tag}
 use Rattle.coding.specs.Value.{Value}
@@ -80,17 +80,17 @@ module _ (T : Table) (f : ℕ → List ℕ → Answer ReadingCause Value) (i s :
 
 -- the record of an entry
 abbrev pub record_of : List ℕ → ℕ → Record
-record_of b w = record_in b (unpacked w)
+record_of b w = record_in b (described w)
 
 module _ {b index : List ℕ} (R : Ready b index) {w : ℕ} (I : IsRecord b index w) where
   abbrev r : Record
   r = record_of b w
 
-  pub its_body : body_at b (octet_of (unpacked w).kind) (unpacked w).own ≡ r.body
-  its_body = (its_entry R I).body ∙ ap (λ (x : Record). x.body) (sym (its_record R I))
+  pub its_body : body_at b (octet_of (described w).kind) (described w).own ≡ r.body
+  its_body = (its_entry R I).entered.body ∙ ap (λ (x : Record). x.body) (sym (its_record R I))
 
-  pub its_kind : (octet_of (unpacked w).kind) ≡ kind r.body
-  its_kind = entered_kind (its_entry R I) ∙ ap (λ (x : Record). kind x.body) (sym (its_record R I))
+  pub its_kind : (octet_of (described w).kind) ≡ kind r.body
+  its_kind = entered_kind (its_entry R I).entered ∙ ap (λ (x : Record). kind x.body) (sym (its_record R I))
 
   pub its_holder : held b w ≡ inside r.body
   its_holder = held_body (its_entry R I) R.filled.short ∙ ap (λ (x : Record). inside x.body) (sym (its_record R I))
@@ -98,8 +98,8 @@ module _ {b index : List ℕ} (R : Ready b index) {w : ℕ} (I : IsRecord b inde
   few_members : (y : Body) → (table_in b I.0).body ≡ y → length (members y) ≤ 16
   unfolding members
   few_members (Plain k) h = omega arith
-  few_members (Sequence ms) h = (entered_members (its_entry R I) ms (inl h)).few
-  few_members (Set ms) h = (entered_members (its_entry R I) ms (inr h)).few
+  few_members (Sequence ms) h = (entered_members (its_entry R I).entered ms (inl h)).few
+  few_members (Set ms) h = (entered_members (its_entry R I).entered ms (inr h)).few
   few_members (SequenceOf t) h = omega arith
   few_members (SetOf t) h = omega arith
   few_members (Choice ts) h = omega arith
@@ -112,11 +112,11 @@ module _ {b index : List ℕ} (R : Ready b index) {w : ℕ} (I : IsRecord b inde
       let l : length (members r.body) ≤ 16 = few_members r.body (ap (λ (x : Record). x.body) (sym (its_record R I))) in
       built T (read_value T n) (own_tag r) s g h r.body c (read_bare b n r s) (kind_held T (read_value T n) g h (own_tag r) s r.body l)
 
-  module _ (e : Entry) (ee : e ≡ unpacked w) where
+  module _ (e : Descriptor) (ee : e ≡ described w) where
     pub its_choice : eqb (octet_of e.kind) 50 ≡ is_choice r.body
-    its_choice = ap (λ (x : Entry). eqb (octet_of x.kind) 50) ee ∙ kind_choice (its_entry R I)
+    its_choice = ap (λ (x : Descriptor). eqb (octet_of x.kind) 50) ee ∙ kind_choice (its_entry R I).entered
         ∙ ap (λ (x : Record). is_choice x.body) (sym (its_record R I))
 
     pub its_simple : e.simple ≡ not (constructed r.body)
     its_simple =
-        ap (λ (x : Entry). x.simple) ee ∙ (its_entry R I).simple ∙ ap (λ (x : Record). not (constructed x.body)) (sym (its_record R I))
+        ap (λ (x : Descriptor). x.simple) ee ∙ (its_entry R I).entered.simple ∙ ap (λ (x : Record). not (constructed x.body)) (sym (its_record R I))

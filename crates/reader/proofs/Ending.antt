@@ -15,8 +15,8 @@ use Rattle.octets.specs.Lists.{any}
 use Rattle.octets.proofs.Tests.{test}
 use Rattle.table.specs.Syntax.{Plain, Sequence, Set, SequenceOf, SetOf, Choice}
 use Rattle.kinds.specs.Kinds.{octet_of}
-use Rattle.records.specs.Entries.{unpacked}
-use Rattle.records.specs.declared.entry.Entry.{Entry}
+use Rattle.records.specs.Descriptors.{described}
+use Rattle.records.specs.declared.descriptor.Descriptor.{Descriptor}
 use Rattle.reader.specs.Items.{Holder, inside, message, manner, is_single, parts_of, optionals, pending, lacks}
 use Rattle.reader.specs.Sought.{held}
 use Rattle.reader.specs.Standing.{at_ending, standing}
@@ -46,7 +46,7 @@ list_lacks (inside (SetOf t)) i came s n = optional_parts came i i (t ∷ [])
 list_lacks (inside (Choice ts)) i came s n = absurd (true≢false s)
 list_lacks (message t) i came s n = absurd (true≢false s)
 
-module _ {b index : List ℕ} {w : ℕ} {came : List ℕ} (Z : Seeks b index w came) (plain : (unpacked w).simple ≡ false) (e : Entry) (ee : e ≡ unpacked w)
+module _ {b index : List ℕ} {w : ℕ} {came : List ℕ} (Z : Seeks b index w came) (plain : (described w).simple ≡ false) (e : Descriptor) (ee : e ≡ described w)
     (g : Bool) (eg : g ≡ (eqb (octet_of e.kind) 50 || eqb (octet_of e.kind) 51)) (i : ℕ) (y : Result (Option ℕ) ReadingCause) where
   abbrev H : Holder
   H = held b w
@@ -75,7 +75,7 @@ module _ {b index : List ℕ} {w : ℕ} {came : List ℕ} (Z : Seeks b index w c
       pub stands_list : k ≡ false → Ok (Some u) ≡ standing H i came y
       unfolding at_ending if
       stands_list n =
-          let v : by_member (manner H) ≡ false = sym (ek ∙ ap (λ (x : Entry). eqb (octet_of x.kind) 16 || eqb (octet_of x.kind) 17) ee ∙ (entry_of Z.ready w Z.known).members) ∙ n in
+          let v : by_member (manner H) ≡ false = sym (ek ∙ ap (λ (x : Descriptor). eqb (octet_of x.kind) 16 || eqb (octet_of x.kind) 17) ee ∙ (entry_of Z.ready w Z.known).members) ∙ n in
           sym (at_ending_lem ∙ rw (d, list_lacks H i came (sym one_is ∙ q) v) refl)
 
       module _ (r : Bool) (er : r ≡ lacks H i came) where

@@ -23,8 +23,8 @@ use Rattle.ber.proofs.Told.{identifier_read, identifier_refused}
 use Rattle.table.specs.Syntax.{Member, Table}
 use Rattle.table.specs.Reading.{table_in, count_in}
 use Rattle.kinds.specs.Kinds.{octet_of}
-use Rattle.records.specs.Entries.{unpacked}
-use Rattle.records.specs.declared.entry.Entry.{Entry}
+use Rattle.records.specs.Descriptors.{described}
+use Rattle.records.specs.declared.descriptor.Descriptor.{Descriptor}
 use Rattle.records.specs.declared.entry.Span.{Span}
 use Rattle.coding.specs.Reading.{passes, begun, not_awaited}
 use Rattle.coding.proofs.FirstTags.{good}
@@ -39,7 +39,7 @@ use Rattle.reader.proofs.Items.{found_of, awaits_found, first_none, first_passes
 use Rattle.reader.proofs.ItemsSearch.{GoodHolder, Tells, tells, search_itself, direct_next, indirect_next}
 use Rattle.reader.proofs.Searching.{Parted, spanned, type_low, clear_turn}
 use Rattle.reader.proofs.Spans.{PartAt, held_body, tabled_some}
-use Rattle.checker.proofs.Ready.{Ready}
+use Rattle.checker.proofs.Ready.{Ready, described_in}
 
 -- the refusal of an item that begins no part that is awaited
 pub unfit_is : (h : Holder) (i : ℕ) (came s : List ℕ) (c : ReadingCause) → not_awaited {A = List ℕ} s ≡ refused c (length s)
@@ -56,11 +56,11 @@ paired (q, j) p k d v = rw (d, v) refl
 pub good_held : {b index : List ℕ} → Ready b index → (w : ℕ) → Known b index w → GoodHolder (table_in b) (held b w)
 unfolding GoodHolder holder_in if
 good_held {b} R w (of_record t h q) =
-    let x = R.filled.entered t h in
+    let x = described_in R t h in
     rw (q, held_body x R.filled.short) (good b (table_in b) (count_in b) R.passes t).apart
 good_held R w (of_message t h q) = rw q tt
 
-module _ {b index : List ℕ} {w : ℕ} {came : List ℕ} {e : Entry} {s : Span} (D : Parted b index w came e s)
+module _ {b index : List ℕ} {w : ℕ} {came : List ℕ} {e : Descriptor} {s : Span} (D : Parted b index w came e s)
     (m : List ℕ) (o : Octets m) (y : Result Identifier ReadingCause) (ey : y ≡ told_identifier (length m) (read_identifier m)) (i : ℕ) (way : List ℕ) where
   abbrev H : Holder
   H = held b w
@@ -103,7 +103,7 @@ module _ {b index : List ℕ} {w : ℕ} {came : List ℕ} {e : Entry} {s : Span}
 
     -- a part that begins with the code itself
     module _ (place : ℕ) (ep : place ≡ direct b H i came code) (l : place < s.count) where
-      abbrev AtPlace : PartAt b H (octet_of (unpacked w).kind) s place
+      abbrev AtPlace : PartAt b H (octet_of (described w).kind) s place
       AtPlace = (spanned D).at place l
 
       first_part : (z : Option Placed) → first (λ x. starts_with (T x.1.type) code) (awaits H i came) ≡ z → place ≡ place_of (tabled_count H) z

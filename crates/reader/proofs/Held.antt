@@ -14,8 +14,9 @@ use Rattle.table.specs.Syntax.{Body, Plain, Sequence, Set, SequenceOf, SetOf, Ch
 use Rattle.table.specs.Octets.{kind}
 use Rattle.table.specs.Reading.{table_in}
 use Rattle.kinds.specs.Kinds.{octet_of}
-use Rattle.records.specs.Entries.{unpacked, span_of}
-use Rattle.records.specs.declared.entry.Entry.{Entry}
+use Rattle.records.specs.Entries.{span_of}
+use Rattle.records.specs.Descriptors.{described}
+use Rattle.records.specs.declared.descriptor.Descriptor.{Descriptor}
 use Rattle.records.specs.declared.entry.Span.{Span}
 use Rattle.records.proofs.Promises.{entered_kind}
 use Rattle.reader.specs.Items.{Holder, inside, message, manner, parts_of, is_single, node_size}
@@ -25,7 +26,7 @@ use Rattle.reader.specs.Sought.{held, tabled_count}
 use Rattle.reader.proofs.ItemsSizes.{is_plain}
 use Rattle.reader.proofs.PlacedNodes.{opening_is, node_is}
 use Rattle.reader.proofs.Spans.{Spanned, held_body, its}
-use Rattle.checker.proofs.Ready.{Ready}
+use Rattle.checker.proofs.Ready.{Ready, described_in}
 
 kind_inside : (y : Body) → constructed y ≡ true → (kind y ≡ kind_of (inside y)) × (is_plain (inside y) ≡ false)
 unfolding kind kind_of constructed is_plain
@@ -64,17 +65,17 @@ pub onward_most : (k p : ℕ) → onward k p ≤ suc p
 unfolding onward if
 onward_most k p = test (has_members k) (λ c. rw c (omega arith)) λ c. rw c (omega arith)
 
-module _ {b index : List ℕ} (R : Ready b index) {w : ℕ} (K : Known b index w) (holds : (unpacked w).simple ≡ false) where
-  stands_for : (octet_of (unpacked w).kind ≡ kind_of (held b w)) × (is_plain (held b w) ≡ false)
+module _ {b index : List ℕ} (R : Ready b index) {w : ℕ} (K : Known b index w) (holds : (described w).simple ≡ false) where
+  stands_for : (octet_of (described w).kind ≡ kind_of (held b w)) × (is_plain (held b w) ≡ false)
   unfolding holder_in if kind_of is_plain
   stands_for = go K holds
     where
-      go : Known b index w → (unpacked w).simple ≡ false → (octet_of (unpacked w).kind ≡ kind_of (held b w)) × (is_plain (held b w) ≡ false)
+      go : Known b index w → (described w).simple ≡ false → (octet_of (described w).kind ≡ kind_of (held b w)) × (is_plain (held b w) ≡ false)
       go (of_record t h q) n =
-          let x = R.filled.entered t h in
-          let c = not-false (constructed (table_in b t).body) (sym x.simple ∙ rw q at n) in
+          let x = described_in R t h in
+          let c = not-false (constructed (table_in b t).body) (sym x.entered.simple ∙ rw q at n) in
           let y = kind_inside (table_in b t).body c in
-          rw (q, held_body x R.filled.short) (entered_kind x ∙ y.0, y.1)
+          rw (q, held_body x R.filled.short) (entered_kind x.entered ∙ y.0, y.1)
       go (of_message t h q) n = rw q (refl, refl)
 
   pub held_some : is_plain (held b w) ≡ false
@@ -83,16 +84,16 @@ module _ {b index : List ℕ} (R : Ready b index) {w : ℕ} (K : Known b index w
   pub held_kinded : kind_of (held b w) ≡ 0 → ⊥
   held_kinded = (some_kind (held b w) held_some).0
 
-  module _ (e : Entry) (ee : e ≡ unpacked w) where
+  module _ (e : Descriptor) (ee : e ≡ described w) where
     pub held_kind : (octet_of e.kind) ≡ kind_of (held b w)
-    held_kind = ap (λ (x : Entry). octet_of x.kind) ee ∙ stands_for.0
+    held_kind = ap (λ (x : Descriptor). octet_of x.kind) ee ∙ stands_for.0
 
     pub held_one : holds_one (octet_of e.kind) ≡ is_single (manner (held b w))
     held_one = ap holds_one held_kind ∙ (some_kind (held b w) held_some).1
 
     module _ (s : Span) (es : s ≡ span_of b (octet_of e.kind) e.own) where
-      pub held_span : Spanned b (held b w) (octet_of (unpacked w).kind) s
-      held_span = its R w K s (es ∙ ap (λ (x : Entry). span_of b (octet_of x.kind) x.own) ee)
+      pub held_span : Spanned b (held b w) (octet_of (described w).kind) s
+      held_span = its R w K s (es ∙ ap (λ (x : Descriptor). span_of b (octet_of x.kind) x.own) ee)
 
       pub held_few : length (parts_of (held b w)) ≤ 16
       held_few = parts_few (held b w) (omega (arith, held_span.count, held_span.few))

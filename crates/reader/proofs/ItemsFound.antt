@@ -23,8 +23,9 @@ use Rattle.table.specs.Syntax.{Tag, Member, Body, Record, Table, constructed}
 use Rattle.table.specs.Reading.{table_in, count_in}
 use Rattle.table.specs.Passes.{Nested}
 use Rattle.kinds.specs.Kinds.{octet_of}
-use Rattle.records.specs.Entries.{unpacked, untagged, more, outermost_code}
-use Rattle.records.specs.declared.entry.Entry.{Entry}
+use Rattle.records.specs.Entries.{untagged, more, outermost_code}
+use Rattle.records.specs.Descriptors.{described}
+use Rattle.records.specs.declared.descriptor.Descriptor.{Descriptor}
 use Rattle.records.specs.declared.entry.Span.{Span}
 use Rattle.coding.specs.Reading.{begun, read_value}
 use Rattle.reader.specs.Codes.{first_of, either, starts_with, peeked, hit}
@@ -46,7 +47,7 @@ use Rattle.reader.proofs.Finding.{good_held}
 use Rattle.reader.proofs.Spans.{PartAt, awaits_hit}
 use Rattle.reader.proofs.Opening.{octets_drop}
 use Rattle.reader.proofs.Tagging.{record_is}
-use Rattle.checker.proofs.Ready.{Ready}
+use Rattle.checker.proofs.Ready.{Ready, described_in}
 
 -- the part at hand, which has not come, is the one that the item begins, if the item begins it
 module _ (f : Placed → Bool) (came : List ℕ) (k : Member) where
@@ -176,9 +177,9 @@ abbrev pub rest_of : List ℕ → ℕ → List ℕ
 rest_of m at = take (length m - at) (drop at m)
 
 -- the part at hand, which begins with the first octet
-module _ {b index : List ℕ} {w : ℕ} {came : List ℕ} {e : Entry} {s : Span} (D : Parted b index w came e s)
+module _ {b index : List ℕ} {w : ℕ} {came : List ℕ} {e : Descriptor} {s : Span} (D : Parted b index w came e s)
     (m : List ℕ) (o : Octets m) (here_is : 0 < length m) (j : ℕ) (l : j < s.count) (z : get_or came j 0 ≡ 0)
-    (t f : ℕ) (et : t ≡ get_or b (s.first + s.step * j) 0) (ef : f ≡ (unpacked (get_or index t 0)).code) (q : f ≡ get_or m 0 0) where
+    (t f : ℕ) (et : t ≡ get_or b (s.first + s.step * j) 0) (ef : f ≡ (described (get_or index t 0)).code) (q : f ≡ get_or m 0 0) where
   abbrev Records : Table
   Records = table_in b
 
@@ -206,7 +207,7 @@ module _ {b index : List ℕ} {w : ℕ} {came : List ℕ} {e : Entry} {s : Span}
       let c = code_of (get_or m 0 0 ∷ []) in
       its_tells t ∙ ap hit (search_itself Records m c its_tells t its_first)
 
-  abbrev PartJ : PartAt b Held (octet_of (unpacked w).kind) s j
+  abbrev PartJ : PartAt b Held (octet_of (described w).kind) s j
   PartJ = (spanned D).at j l
 
   sought_fits : (way : List ℕ) → Sought b Held (since (manner Held) j) came m way (Ok (record { place = j; «record» = t; depth = 0; from = 1 }))
@@ -223,8 +224,8 @@ module _ {b index : List ℕ} {w : ℕ} {came : List ℕ} {e : Entry} {s : Span}
       )
 
 -- as it is answered, of an item at a place of m
-pub turn_fits : {b index : List ℕ} {w : ℕ} {came : List ℕ} {e : Entry} {s : Span} (D : Parted b index w came e s) (m : List ℕ) → Octets m → (at : ℕ) → at < length m
-    → (j : ℕ) → j < s.count → get_or came j 0 ≡ 0 → (t f : ℕ) → t ≡ get_or b (s.first + s.step * j) 0 → f ≡ (unpacked (get_or index t 0)).code
+pub turn_fits : {b index : List ℕ} {w : ℕ} {came : List ℕ} {e : Descriptor} {s : Span} (D : Parted b index w came e s) (m : List ℕ) → Octets m → (at : ℕ) → at < length m
+    → (j : ℕ) → j < s.count → get_or came j 0 ≡ 0 → (t f : ℕ) → t ≡ get_or b (s.first + s.step * j) 0 → f ≡ (described (get_or index t 0)).code
     → f ≡ get_or m at 0 → (x : Chosen) → ◌≡◌ {A = Option Chosen} (Some (record { place = j; «record» = t; depth = 0; from = 1 })) (Some x)
     → (x.place ≡ j) × (x.depth ≡ 0) × ((way : List ℕ) → Sought b (held b w) (since (manner (held b w)) j) came (drop at m) way (Ok x))
 turn_fits D m o at l j k z t f et ef q x ex =
@@ -263,12 +264,12 @@ module _ {b index : List ℕ} (R : Ready b index) {h : Holder} {m : List ℕ} (o
       ≡ then (read_value (table_in b) (n - depth) number (drop at m)) λ v u. got (wrapped way depth v) u
   item_value n l = way_value (table_in b) all_fit all_nested Code not_bare (drop at m) its_told X.leads X.its n l
 
-  pub item_headed : let e = unpacked (get_or index number 0) in Headed m at from (either (record_in b e)) e.code
+  pub item_headed : let e = described (get_or index number 0) in Headed m at from (either (record_in b e)) e.code
   item_headed =
       record {
         identifier = X.identifier;
         is = X.read;
-        coded = let x = R.filled.entered number X.there in rw (record_is x, x.code) X.its;
+        coded = let x = described_in R number X.there in rw (record_is x, x.entered.code) X.its;
         further = X.further;
         low = X.low;
       }

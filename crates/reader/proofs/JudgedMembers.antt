@@ -24,8 +24,9 @@ use Rattle.ber.proofs.Places.{part_to_end}
 use Rattle.table.specs.Syntax.{Plain, Sequence, Set, SequenceOf, SetOf, Choice, Record, Table}
 use Rattle.table.specs.Reading.{table_in}
 use Rattle.kinds.specs.Kinds.{octet_of}
-use Rattle.records.specs.Entries.{unpacked, span_of}
-use Rattle.records.specs.declared.entry.Entry.{Entry}
+use Rattle.records.specs.Entries.{span_of}
+use Rattle.records.specs.Descriptors.{described}
+use Rattle.records.specs.declared.descriptor.Descriptor.{Descriptor}
 use Rattle.records.specs.declared.entry.Span.{Span}
 use Rattle.octets.specs.Permutations.{as_given}
 use Rattle.checker.proofs.Ready.{Ready, ready_by}
@@ -207,12 +208,12 @@ pub record Setting : Type 0 where
   pub b : List ℕ
   pub index : List ℕ
   pub w : ℕ
-  pub e : Entry
+  pub e : Descriptor
   pub s : Span
   pub ready : Ready b index
   pub known : Known b index w
-  pub holds : (unpacked w).simple ≡ false
-  pub entry : e ≡ unpacked w
+  pub holds : (described w).simple ≡ false
+  pub entry : e ≡ described w
   pub span : s ≡ span_of b (octet_of e.kind) e.own
 
 abbrev T : Setting → Table
@@ -228,7 +229,7 @@ module _ (Q : Setting) where
   kind_is : (octet_of Q.e.kind) ≡ kind_of (H Q)
   kind_is = held_kind Q.ready Q.known Q.holds Q.e Q.entry
 
-  its_span : Spanned Q.b (H Q) (octet_of (unpacked Q.w).kind) Q.s
+  its_span : Spanned Q.b (H Q) (octet_of (described Q.w).kind) Q.s
   its_span = held_span Q.ready Q.known Q.holds Q.e Q.entry Q.s Q.span
 
   few : length (parts_of (H Q)) ≤ 16
@@ -282,12 +283,12 @@ pub record Turn (Q : Setting) : Type 0 where
   pub y : Result (Option ℕ) ReadingCause
   pub stands : y ≡ standing (H Q) (since (manner (H Q)) j) came (end_of indefinite (length m) (drop at m))
 
-abbrev pub setting_of : (x : Passed) {w level : ℕ} {m : List ℕ} {e : Entry} {s : Span} → ToJudge x.octets.now x.index.now w m level → e ≡ unpacked w
+abbrev pub setting_of : (x : Passed) {w level : ℕ} {m : List ℕ} {e : Descriptor} {s : Span} → ToJudge x.octets.now x.index.now w m level → e ≡ described w
     → s ≡ span_of x.octets.now (octet_of e.kind) e.own → Setting
 setting_of x {w} {e = e} {s = s} q ee es =
     record { b = x.octets.now; index = x.index.now; w = w; e = e; s = s; ready = ready_by x; known = q.known; holds = q.holds; entry = ee; span = es }
 
-abbrev pub turn_of : (x : Passed) {w level : ℕ} {m : List ℕ} {e : Entry} {s : Span} (q : ToJudge x.octets.now x.index.now w m level) (ee : e ≡ unpacked w)
+abbrev pub turn_of : (x : Passed) {w level : ℕ} {m : List ℕ} {e : Descriptor} {s : Span} (q : ToJudge x.octets.now x.index.now w m level) (ee : e ≡ described w)
     (es : s ≡ span_of x.octets.now (octet_of e.kind) e.own)
     → {indefinite : Bool} {came : List ℕ} {total at j : ℕ} {y : Result (Option ℕ) ReadingCause} → Octets m → at ≤ length m
     → Judging x.octets.now w m indefinite level came total at j
@@ -372,8 +373,8 @@ module _ {Q : Setting} (P : Turn Q) where
     its_more n = λ A f z. (end_more {A = A} f z P.m P.at P.indefinite E refl (goes_on n)).0
 
     -- what is asked of the part next in turn
-    pub turn_asks : Sound Q.b Q.index Q.w P.came × (Q.s ≡ span_of Q.b (octet_of (unpacked Q.w).kind) (unpacked Q.w).own) × (P.at < length P.m)
-    turn_asks = (judging_sound Q P.so_far, Q.span ∙ ap (λ (x : Entry). span_of Q.b (octet_of x.kind) x.own) Q.entry, there)
+    pub turn_asks : Sound Q.b Q.index Q.w P.came × (Q.s ≡ span_of Q.b (octet_of (described Q.w).kind) (described Q.w).own) × (P.at < length P.m)
+    turn_asks = (judging_sound Q P.so_far, Q.span ∙ ap (λ (x : Descriptor). span_of Q.b (octet_of x.kind) x.own) Q.entry, there)
       where
         there : P.at < length P.m
         there =
@@ -464,20 +465,20 @@ module _ {Q : Setting} {P : Turn Q} (X : Comes P) where
   abbrev pub is_record : IsRecord Q.b Q.index EntryOf
   is_record = (X.type, X.is.there, refl)
 
-  pub is_headed : Headed P.m P.at X.from (either (record_in Q.b (unpacked EntryOf))) (unpacked EntryOf).code
+  pub is_headed : Headed P.m P.at X.from (either (record_in Q.b (described EntryOf))) (described EntryOf).code
   is_headed = item_headed Q.ready P.octets X.is
 
 -- whose value was judged
 pub record Valued {Q : Setting} {P : Turn Q} (X : Comes P) : Type 0 where
   pub deep : X.depth < P.level
   pub r : Result Judged Unread
-  pub said : r ≡ told P.m size (read_record (T Q) (P.level - X.depth - 1) (record_in Q.b (unpacked (EntryOf X))) (Rest P))
+  pub said : r ≡ told P.m size (read_record (T Q) (P.level - X.depth - 1) (record_in Q.b (described (EntryOf X))) (Rest P))
 
 module _ {Q : Setting} {P : Turn Q} {X : Comes P} (Y : Valued X) where
   abbrev Below : Answer ReadingCause Value
   Below = read_value (T Q) (P.level - X.depth) X.type (Rest P)
 
-  record_value : read_record (T Q) (P.level - X.depth - 1) (record_in Q.b (unpacked (EntryOf X))) (Rest P) ≡ Below
+  record_value : read_record (T Q) (P.level - X.depth - 1) (record_in Q.b (described (EntryOf X))) (Rest P) ≡ Below
   record_value =
       let q : P.level - X.depth ≡ suc (P.level - X.depth - 1) = omega (arith, Y.deep) in
       ap (λ (x : Record). read_record (T Q) (P.level - X.depth - 1) x (Rest P)) (its_record Q.ready (is_record X))

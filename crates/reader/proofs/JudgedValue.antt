@@ -29,8 +29,8 @@ use Rattle.table.specs.Octets.{kind}
 use Rattle.table.specs.Reading.{body_at, table_in, count_in}
 use Rattle.kinds.specs.Kinds.{octet_of}
 use Rattle.kinds.specs.declared.Kind.TheVariants.{Message}
-use Rattle.records.specs.Entries.{unpacked, Entered}
-use Rattle.records.specs.declared.entry.Entry.{Entry}
+use Rattle.records.specs.Descriptors.{described, Describes}
+use Rattle.records.specs.declared.descriptor.Descriptor.{Descriptor}
 use Rattle.checker.proofs.Ready.{Ready, ready_by}
 use Rattle.coding.specs.Content.{segmented}
 use Rattle.coding.specs.Value.{Value, leaf, Leaf, octets}
@@ -85,7 +85,7 @@ unsized_by {n} e f =
     test (eqb n 0) (λ t. eqb-true n 0 t)
     λ t. let q : ◌≡◌ {A = Option ℕ} None (Some n) = sym f ∙ e ∙ rw t refl in let z : ◌≡◌ {A = ℕ} 0 1 = cc in absurd (omega arith)
 
-module _ {b : List ℕ} {e : Entry} {r : Record} (X : Entered b e r) (lead : ℕ) (c : List ℕ) (f : is_in_segments lead ≡ true → (octet_of e.kind ≡ 3) ⊎ (octet_of e.kind ≡ 4)) where
+module _ {b : List ℕ} {e : Descriptor} {r : Record} (X : Describes b e r) (lead : ℕ) (c : List ℕ) (f : is_in_segments lead ≡ true → (octet_of e.kind ≡ 3) ⊎ (octet_of e.kind ≡ 4)) where
   by_itself : {n : ℕ} → n ≡ size_by (body_at b (octet_of e.kind) e.own) lead c → (n ≡ 0 → ⊥) → is_in_segments lead ≡ false
   by_itself en some = test (is_in_segments lead) (λ t. absurd (some (en ∙ by_parts b (octet_of e.kind) e.own lead c (f t) t))) (λ t. t)
 
@@ -130,7 +130,7 @@ module _ {b index : List ℕ} {w : ℕ} {m : List ℕ} {first level : ℕ} (X : 
       rw (
         X.under.whole level,
         e,
-        closing_refused {A = Value} m (length m) (take (unpacked w).explicit X.notes) X.end c l
+        closing_refused {A = Value} m (length m) (take (described w).explicit X.notes) X.end c l
             X.under.around,
       ) refl
 
@@ -166,9 +166,9 @@ module _ {b index : List ℕ} {w : ℕ} {m : List ℕ} {first level : ℕ} (X : 
         subst (λ (y : Extent). Within (record_of b w) (Part X) X.at X.end y.start y.end y.indefinite) q (contents_bare X n))
         λ k. let n = eqb-false (octet_of X.entry.kind) 50 k in contents_sized X n r (t.1 n _) x e
 
-abbrev pub item_of : (p : Passed) {w at from level : ℕ} {m : List ℕ} {e : Entry} → ToJudgeValue p.octets.now p.index.now w m at from level → e ≡ unpacked w
+abbrev pub item_of : (p : Passed) {w at from level : ℕ} {m : List ℕ} {e : Descriptor} → ToJudgeValue p.octets.now p.index.now w m at from level → e ≡ described w
     → Octets m → (notes : List ℕ) (x : Inner)
-    → Under p.octets.now (record_of p.octets.now w) m at (take (unpacked w).explicit notes) x.at x.from x.end → Item p.octets.now p.index.now w m at level
+    → Under p.octets.now (record_of p.octets.now w) m at (take (described w).explicit notes) x.at x.from x.end → Item p.octets.now p.index.now w m at level
 item_of p {e = e} q ee o notes x u =
     record {
       ready = ready_by p;
@@ -197,10 +197,10 @@ module _ {b index : List ℕ} {w : ℕ} {m : List ℕ} {first level : ℕ} (Y : 
     pub leaf_kind_lem : is_in_segments Lead ≡ true → (octet_of Y.item.entry.kind ≡ 3) ⊎ (octet_of Y.item.entry.kind ≡ 4)
     leaf_kind_lem t =
         let (k, q) = is_plain Y simple in
-        let e = ap (λ (x : Entry). octet_of x.kind) Y.item.entered ∙ its_kind Y.item.ready Y.item.known ∙ ap kind q in
+        let e = ap (λ (x : Descriptor). octet_of x.kind) Y.item.entered ∙ its_kind Y.item.ready Y.item.known ∙ ap kind q in
         string_kind k (leaf_string Y simple k q (sym (leaf_lead Y simple k q) ∙ t)) e
 
-    its_entered : Entered b Y.item.entry (table_in b Y.item.known.0)
+    its_entered : Describes b Y.item.entry (table_in b Y.item.known.0)
     its_entered = rw Y.item.entered (its_entry Y.item.ready Y.item.known)
 
     module _ (y : Result Judged Unread) (ey : y ≡ told (C Y) leaf_size (read_leaf_in (body_at b (octet_of Y.item.entry.kind) Y.item.entry.own) (is_in_segments Lead) Y.indefinite
@@ -218,7 +218,7 @@ module _ {b index : List ℕ} {w : ℕ} {m : List ℕ} {first level : ℕ} (Y : 
           let n = length m - Y.item.end in
           let i : length m - Y.item.at ≡ length (S Y) + n = omega (arith, left_part Y.item, Y.item.under.some, Y.item.under.high) in
           let j : length m - Y.stop ≡ Y.item.end - Y.stop + n = omega (arith, Y.within.high, Y.item.under.high) in
-          let e = ey ∙ ap (λ (x : Entry). told (C Y) leaf_size (read_leaf_in (body_at b (octet_of x.kind) x.own) (is_in_segments Lead) Y.indefinite
+          let e = ey ∙ ap (λ (x : Descriptor). told (C Y) leaf_size (read_leaf_in (body_at b (octet_of x.kind) x.own) (is_in_segments Lead) Y.indefinite
           (length m - Y.item.at) (length m - Y.stop) (C Y))) Y.item.entered
           ∙ ap (λ (x : Body). told (C Y) leaf_size (read_leaf_in x (is_in_segments Lead) Y.indefinite (length m - Y.item.at) (length m - Y.stop) (C Y)))
           (its_body Y.item.ready Y.item.known ∙ q) in
@@ -316,19 +316,19 @@ module _ {b index : List ℕ} {w : ℕ} {m : List ℕ} {first level : ℕ} (Z : 
   abbrev AllNotes : List ℕ
   AllNotes = take It.entry.explicit It.notes
 
-  notes_same : AllNotes ≡ take (unpacked w).explicit It.notes
+  notes_same : AllNotes ≡ take (described w).explicit It.notes
   notes_same = its_notes It.ready It.known It.entry It.entered It.notes
 
   pub item_tags : It.entry.explicit ≤ 4
-  item_tags = omega (arith, ap (λ (x : Entry). x.explicit) It.entered, its_count It.ready It.known, its_few It.ready It.known)
+  item_tags = omega (arith, ap (λ (x : Descriptor). x.explicit) It.entered, its_count It.ready It.known, its_few It.ready It.known)
 
   pub item_closes : (It.entry.explicit ≤ 4) × (Z.stop ≤ It.end) × (length m ≤ 8192) × (Z.count < 16386)
       × Around (length m) AllNotes It.end
   item_closes = (item_tags, Z.over.within, It.short, Z.over.small, rw notes_same It.under.around)
 
-  closed_is : Wanted It ≡ told m (λ (i : ℕ). i) (closing m (take (unpacked w).explicit It.notes) It.end (Behind Z.count))
+  closed_is : Wanted It ≡ told m (λ (i : ℕ). i) (closing m (take (described w).explicit It.notes) It.end (Behind Z.count))
   closed_is =
-      let ns = take (unpacked w).explicit It.notes in
+      let ns = take (described w).explicit It.notes in
       let v = Z.over.value in
       let q : cap (length (octets v)) ≡ cap Z.count = omega (arith, Z.over.sized, Z.over.small) in
       ap (told m size) (It.under.whole level ∙ ap (closing m ns It.end) Z.over.is)
@@ -349,9 +349,9 @@ module _ {b index : List ℕ} {w : ℕ} {m : List ℕ} {first level : ℕ} (Z : 
       sym (closed_is ∙ rw (z, q, g) refl)
 
 -- a whole message of type t
-pub message_known : {b index : List ℕ} (w t : ℕ) → t < count_in b → unpacked w ≡ record { code = 0; own = t; kind = Message; explicit = 0; simple = false }
-    → Known b index w × ((unpacked w).simple ≡ false)
-message_known w t h q = (of_message t h q, ap (λ (x : Entry). x.simple) q)
+pub message_known : {b index : List ℕ} (w t : ℕ) → t < count_in b → described w ≡ record { code = 0; own = t; kind = Message; explicit = 0; simple = false }
+    → Known b index w × ((described w).simple ≡ false)
+message_known w t h q = (of_message t h q, ap (λ (x : Descriptor). x.simple) q)
 
 pub message_empty : (T : Table) (n t : ℕ) (m : List ℕ) → length m ≡ 0 → unread Cut 0 ≡ told m size (read_message T n t m)
 unfolding told read_message none_left if
@@ -359,7 +359,7 @@ message_empty T n t [] z = refl
 message_empty T n t (x ∷ m) z = absurd (omega arith)
 
 module _ (b m : List ℕ) (n t : ℕ) (some : length m ≡ 0 → ⊥) (w : ℕ)
-    (q : unpacked w ≡ record { code = 0; own = t; kind = Message; explicit = 0; simple = false })
+    (q : described w ≡ record { code = 0; own = t; kind = Message; explicit = 0; simple = false })
     (y : Result Judged Unread) (ey : y ≡ told m size (read_held (table_in b) (read_value (table_in b) n) (held b w) closed m)) where
   abbrev Root : Answer ReadingCause Value
   Root = read_held (table_in b) (read_value (table_in b) n) (message t) closed m

@@ -42,8 +42,8 @@ use Rattle.kinds.specs.declared.Kind.{Kind}
 use Rattle.kinds.specs.declared.Kind.TheVariants.{BitString as Bits, OctetString as Octets}
 use Rattle.kinds.specs.Kinds.{octet_of}
 use Rattle.kinds.proofs.Same.{is_kind, not_kind, same_kind}
-use Rattle.records.specs.Entries.{Entered}
-use Rattle.records.specs.declared.entry.Entry.{Entry}
+use Rattle.records.specs.Descriptors.{Describes}
+use Rattle.records.specs.declared.descriptor.Descriptor.{Descriptor}
 use Rattle.coding.specs.Content.{segmented}
 use Rattle.coding.specs.Value.{Leaf, bits, string, leaf_octets}
 use Rattle.coding.specs.Reading.{decode}
@@ -163,9 +163,9 @@ module _ (k : Simple) (c : List ℕ) (l : ℕ) (n : ℕ) (en : n ≡ weight (dec
       go (got x w) e = (x, decode_moves k 0 c [] l [] x w e, rw e at en)
       go (refused a b) e = absurd (z (rw e at en))
 
-module _ {b : List ℕ} {e : Entry} {r : Record} (X : Entered b e r) (s : e.simple ≡ true) (z : Bool) (l j : ℕ) (c : List ℕ) where
+module _ {b : List ℕ} {e : Descriptor} {r : Record} (X : Describes b e r) (s : e.simple ≡ true) (z : Bool) (l j : ℕ) (c : List ℕ) where
   its_simple : (k : Simple) × (body_at b (octet_of e.kind) e.own ≡ Plain k)
-  its_simple = let (k, p) = plain_of r.body (not-true (constructed r.body) (sym X.simple ∙ s)) in (k, X.body ∙ p)
+  its_simple = let (k, p) = plain_of r.body (not-true (constructed r.body) (sym X.entered.simple ∙ s)) in (k, X.entered.body ∙ p)
 
   pub whole_open : z ≡ true → unread Forbidden l ≡ told c leaf_size (read_leaf_in (body_at b (octet_of e.kind) e.own) false z l j c)
   unfolding read_leaf_in read_leaf told

@@ -14,7 +14,7 @@ use Rattle.ber.specs.Skipping.{Skips}
 use Rattle.table.specs.Syntax.{Member, Plain, Sequence, Set, SequenceOf, SetOf, Choice, Table}
 use Rattle.table.specs.Reading.{table_in, count_in}
 use Rattle.kinds.specs.Kinds.{octet_of}
-use Rattle.records.specs.Entries.{unpacked}
+use Rattle.records.specs.Descriptors.{described}
 use Rattle.coding.specs.Reading.{read_value}
 use Rattle.coding.proofs.FirstTags.{good}
 use Rattle.reader.specs.Items.{Holder, inside, message, Manner, in_turn, each_once, repeated, single, manner, parts_of, since, next, blank}
@@ -52,18 +52,18 @@ the_members (inside (Choice ts)) e = absurd (true≢false (sym (ap by_member e))
 the_members (message t) e = absurd (true≢false (sym (ap by_member e)))
 
 module _ {b index : List ℕ} (R : Ready b index) {w : ℕ} (known : Known b index w) where
-  its : EntryOf b (unpacked w)
+  its : EntryOf b (described w)
   its = entry_of R w known
 
-  pub set_once : (octet_of (unpacked w).kind) ≡ 17 → manner (held b w) ≡ each_once
+  pub set_once : (octet_of (described w).kind) ≡ 17 → manner (held b w) ≡ each_once
   set_once k =
       once_is (manner (held b w)) (sym its.sequence ∙ ap (λ (n : ℕ). eqb n 16) k) (sym its.members ∙ ap (λ (n : ℕ). eqb n 16 || eqb n 17) k)
 
-  pub set_members : (octet_of (unpacked w).kind) ≡ 17 → (ms : List Member) × (held b w ≡ inside (Set ms))
+  pub set_members : (octet_of (described w).kind) ≡ 17 → (ms : List Member) × (held b w ≡ inside (Set ms))
   set_members k = the_members (held b w) (set_once k)
 
   -- what the search relies on
-  pub set_sound : (octet_of (unpacked w).kind) ≡ 17 → (came : List ℕ) → Sound b index w came
+  pub set_sound : (octet_of (described w).kind) ≡ 17 → (came : List ℕ) → Sound b index w came
   set_sound k came = record { known = known; clear = λ f p. absurd (f (set_once k)) }
 
   pub set_few : (ms : List Member) → held b w ≡ inside (Set ms) → length ms ≤ 16
@@ -81,7 +81,7 @@ module _ {b index : List ℕ} (R : Ready b index) {w : ℕ} (known : Known b ind
   found_is : Sought b (held b w) (since (manner (held b w)) 0) ns s way (Ok x)
   found_is = rw q at S
 
-  pub place_low : (octet_of (unpacked w).kind) ≡ 17 → x.place < 16
+  pub place_low : (octet_of (described w).kind) ≡ 17 → x.place < 16
   unfolding parts_of
   place_low k =
       let (ms, h) = set_members R known k in

@@ -27,8 +27,9 @@ use Rattle.ber.specs.declared.length.Extent.{Extent}
 use Rattle.ber.proofs.Told.{length_definite, length_indefinite, length_refused}
 use Rattle.table.specs.Syntax.{Tag, Body, Plain, Sequence, Set, SequenceOf, SetOf, Choice, Record, Table, is_choice}
 use Rattle.table.specs.Reading.{table_in}
-use Rattle.records.specs.Entries.{all_but_last, unpacked, first_code, explicit_count}
-use Rattle.records.specs.declared.entry.Entry.{Entry}
+use Rattle.records.specs.Entries.{all_but_last, first_code, explicit_count}
+use Rattle.records.specs.Descriptors.{described}
+use Rattle.records.specs.declared.descriptor.Descriptor.{Descriptor}
 use Rattle.coding.specs.Content.{segmented}
 use Rattle.coding.specs.Tags.{identifier_of, before, explicit_tags, own_tag, explicit}
 use Rattle.coding.specs.Value.{Value}
@@ -489,26 +490,26 @@ module _ (b : List ℕ) (r : Record) (F : Fit r) (m : List ℕ) (om : Octets m) 
 
 -- of the record of an entry
 module _ {b index : List ℕ} (R : Ready b index) {w : ℕ} (I : IsRecord b index w) where
-  pub its_count : (unpacked w).explicit ≡ length (explicit (record_in b (unpacked w)))
+  pub its_count : (described w).explicit ≡ length (explicit (record_in b (described w)))
   its_count =
-      let t = record_in b (unpacked w) in
-      (its_entry R I).explicit ∙ ap explicit_count (sym (its_record R I)) ∙ sym (count_of t.tags t.body (its_fit R I).tagged)
+      let t = record_in b (described w) in
+      (its_entry R I).entered.explicit ∙ ap explicit_count (sym (its_record R I)) ∙ sym (count_of t.tags t.body (its_fit R I).tagged)
 
   -- a tag is left to open
-  pub tag_left : {e : Entry} {j : ℕ} → e ≡ unpacked w → j < e.explicit → j < length (explicit (record_in b (unpacked w)))
-  tag_left {e} {j} q l = omega (arith, its_count, ap (λ (x : Entry). x.explicit) q)
+  pub tag_left : {e : Descriptor} {j : ℕ} → e ≡ described w → j < e.explicit → j < length (explicit (record_in b (described w)))
+  tag_left {e} {j} q l = omega (arith, its_count, ap (λ (x : Descriptor). x.explicit) q)
 
-  pub its_first : (unpacked w).code ≡ first_code (record_in b (unpacked w))
-  its_first = (its_entry R I).code ∙ ap (λ (x : Record). first_code x) (sym (its_record R I))
+  pub its_first : (described w).code ≡ first_code (record_in b (described w))
+  its_first = (its_entry R I).entered.code ∙ ap (λ (x : Record). first_code x) (sym (its_record R I))
 
-  pub its_headed : {m : List ℕ} {at from : ℕ} {either : Bool} → Headed m at from either (unpacked w).code
-      → Headed m at from either (first_code (record_in b (unpacked w)))
+  pub its_headed : {m : List ℕ} {at from : ℕ} {either : Bool} → Headed m at from either (described w).code
+      → Headed m at from either (first_code (record_in b (described w)))
   its_headed {m} {at} {from} {either} h = subst (λ (c : ℕ). Headed m at from either c) its_first h
 
-  pub its_few : length (explicit (record_in b (unpacked w))) ≤ 4
+  pub its_few : length (explicit (record_in b (described w))) ≤ 4
   its_few =
-      let t = record_in b (unpacked w) in
-      omega (arith, more_few t, count_identifiers t (its_fit R I), ap (λ (x : Record). length x.tags) (its_record R I), (its_entry R I).few)
+      let t = record_in b (described w) in
+      omega (arith, more_few t, count_identifiers t (its_fit R I), ap (λ (x : Record). length x.tags) (its_record R I), (its_entry R I).entered.few)
     where
       more_few : (t : Record) → length (explicit t) ≤ length (identifiers t)
       more_few t = omega (arith, length-append (explicit t) (if (is_choice t.body) [] λ _. own_tag t ∷ []))

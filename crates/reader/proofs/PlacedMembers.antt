@@ -20,8 +20,9 @@ use Rattle.ber.specs.Told.{mode}
 use Rattle.table.specs.Syntax.{Member, Plain, Sequence, Set, SequenceOf, SetOf, Choice, Table}
 use Rattle.table.specs.Reading.{table_in, count_in}
 use Rattle.kinds.specs.Kinds.{octet_of}
-use Rattle.records.specs.Entries.{unpacked, span_of}
-use Rattle.records.specs.declared.entry.Entry.{Entry}
+use Rattle.records.specs.Entries.{span_of}
+use Rattle.records.specs.Descriptors.{described}
+use Rattle.records.specs.declared.descriptor.Descriptor.{Descriptor}
 use Rattle.records.specs.declared.entry.Span.{Span}
 use Rattle.coding.specs.Value.{Value, octets}
 use Rattle.coding.specs.Value as ValueOf
@@ -57,7 +58,7 @@ use Rattle.reader.proofs.Held.{held_kind, held_kinded, held_span, held_few, held
 use Rattle.reader.proofs.Spans.{Spanned}
 use Rattle.reader.proofs.ItemsSizes.{presence_length}
 use Rattle.reader.proofs.Locating.{set_members}
-use Rattle.checker.proofs.Ready.{Ready}
+use Rattle.checker.proofs.Ready.{Ready, described_in}
 
 count_parts : (h : Holder) → holds_one (kind_of h) ≡ false → tabled_count h ≡ length (parts_of h)
 unfolding kind_of tabled_count
@@ -117,22 +118,22 @@ said_long (inside (Choice ts)) = omega arith
 said_long (message t) = omega arith
 
 -- what is required, with the entry and where its parts stand
-pub record Given (b index : List ℕ) (w : ℕ) (m : List ℕ) (indefinite : Bool) (first : List ℕ) (to : ℕ) (e : Entry) (s : Span) : Type 0 where
+pub record Given (b index : List ℕ) (w : ℕ) (m : List ℕ) (indefinite : Bool) (first : List ℕ) (to : ℕ) (e : Descriptor) (s : Span) : Type 0 where
   pub ready : Ready b index
   pub asked : ToPlace b index w m indefinite first to
   pub open asked use *
   pub octets : Octets m
-  pub entry : e ≡ unpacked w
+  pub entry : e ≡ described w
   pub span : s ≡ span_of b (octet_of e.kind) e.own
 
 -- and what is known before the loop: where the members of a SET begin and where they end, and the buffer once the node was begun
-pub record Started (b index : List ℕ) (w : ℕ) (m : List ℕ) (indefinite : Bool) (first : List ℕ) (to : ℕ) (e : Entry) (s : Span) (ns : List ℕ) (last : ℕ)
+pub record Started (b index : List ℕ) (w : ℕ) (m : List ℕ) (indefinite : Bool) (first : List ℕ) (to : ℕ) (e : Descriptor) (s : Span) (ns : List ℕ) (last : ℕ)
     (opened : List ℕ) : Type 0 where
   pub given : Given b index w m indefinite first to e s
   pub spotted : (ms : List Member) → held b w ≡ inside (Set ms) → Spotted (table_in b) ms indefinite m ns last
   pub opening : opened ≡ sets first to (opening_of (octet_of e.kind) s.count)
 
-module _ {b index : List ℕ} {w : ℕ} {m : List ℕ} {indefinite : Bool} {first : List ℕ} {to : ℕ} {e : Entry} {s : Span}
+module _ {b index : List ℕ} {w : ℕ} {m : List ℕ} {indefinite : Bool} {first : List ℕ} {to : ℕ} {e : Descriptor} {s : Span}
     (G : Given b index w m indefinite first to e s) where
   abbrev H : Holder
   H = held b w
@@ -162,7 +163,7 @@ module _ {b index : List ℕ} {w : ℕ} {m : List ℕ} {indefinite : Bool} {firs
       go (got all u) q f = record { all = all; read = q ∙ ap (got all) (got_rest f); value = got_value f }
       go (refused c l) q f = refused≢got f
 
-  its_spanned : Spanned b H (octet_of (unpacked w).kind) s
+  its_spanned : Spanned b H (octet_of (described w).kind) s
   its_spanned = held_span G.ready G.known G.holds e G.entry s G.span
 
   its_count : s.count ≡ tabled_count H
@@ -207,7 +208,7 @@ module _ {b index : List ℕ} {w : ℕ} {m : List ℕ} {indefinite : Bool} {firs
       let y : G.fits.rest ≡ rest = got_rest q in
       rw (x, y) at F
 
-module _ {b index : List ℕ} {w : ℕ} {m : List ℕ} {indefinite : Bool} {first : List ℕ} {to : ℕ} {e : Entry} {s : Span} {ns : List ℕ} {last : ℕ}
+module _ {b index : List ℕ} {w : ℕ} {m : List ℕ} {indefinite : Bool} {first : List ℕ} {to : ℕ} {e : Descriptor} {s : Span} {ns : List ℕ} {last : ℕ}
     {opened : List ℕ} (X : Started b index w m indefinite first to e s ns last opened) where
   abbrev All : Hand
   All = (items X.given).all
@@ -231,7 +232,7 @@ module _ {b index : List ℕ} {w : ℕ} {m : List ℕ} {indefinite : Bool} {firs
     -- a SET
     module _ (k17 : (octet_of e.kind) ≡ 17) where
       its_set : (ms : List Member) × (held b w ≡ inside (Set ms))
-      its_set = set_members X.given.ready X.given.known (ap (λ (x : Entry). octet_of x.kind) (sym X.given.entry) ∙ k17)
+      its_set = set_members X.given.ready X.given.known (ap (λ (x : Descriptor). octet_of x.kind) (sym X.given.entry) ∙ k17)
 
       set_count : s.count ≡ length its_set.0
       unfolding tabled_count parts_of
@@ -334,9 +335,9 @@ module _ {b index : List ℕ} (R : Ready b index) where
   record_read : (u : ℕ) → u < count_in b → (s : List ℕ) (v : Value) (w : List ℕ) → read_value (table_in b) 24 u s ≡ got v w
       → value_in b (get_or index u 0) s ≡ got v w
   unfolding read_record read_value
-  record_read u l s v w e = rw (record_is (R.filled.entered u l)) (kept_got (value_kept (table_in b) 24 25 u s (omega arith)) e)
+  record_read u l s v w e = rw (record_is (described_in R u l)) (kept_got (value_kept (table_in b) 24 25 u s (omega arith)) e)
 
-module _ {b index : List ℕ} {w : ℕ} {m : List ℕ} {indefinite : Bool} {first : List ℕ} {to : ℕ} {e : Entry} {s : Span} {ns : List ℕ} {last : ℕ}
+module _ {b index : List ℕ} {w : ℕ} {m : List ℕ} {indefinite : Bool} {first : List ℕ} {to : ℕ} {e : Descriptor} {s : Span} {ns : List ℕ} {last : ℕ}
     {opened : List ℕ} (X : Started b index w m indefinite first to e s ns last opened) (count : ℕ) where
   -- the record that the item begins, on a way from the part at `place`; its first identifier ends at `from`
   pub record Chosen (j : ℕ) (buf : List ℕ) (at next place u from : ℕ) : Type 0 where
@@ -345,7 +346,7 @@ module _ {b index : List ℕ} {w : ℕ} {m : List ℕ} {indefinite : Bool} {firs
     pub least : j ≤ place
     pub low : u < count_in b
     pub tagged : first_of (table_in b u) ≡ untagged → ⊥
-    pub headed : let e = unpacked (get_or index u 0) in Headed m at from (either (record_in b e)) e.code
+    pub headed : let e = described (get_or index u 0) in Headed m at from (either (record_in b e)) e.code
 
   pub sound : Sound b index w blank
   sound = record { known = X.given.known; clear = λ z p. blank_clear p }
@@ -355,8 +356,8 @@ module _ {b index : List ℕ} {w : ℕ} {m : List ℕ} {indefinite : Bool} {firs
     coming_low = omega (arith, got_holds (value_shorter (table_in b) 24 C.part.1.type (drop at m)) C.read, length-drop at m)
 
     -- what is asked of the part next in turn
-    pub coming_asks : Sound b index w blank × (s ≡ span_of b (octet_of (unpacked w).kind) (unpacked w).own) × (at < length m)
-    coming_asks = (sound, X.given.span ∙ ap (λ (x : Entry). span_of b (octet_of x.kind) x.own) X.given.entry, coming_low)
+    pub coming_asks : Sound b index w blank × (s ≡ span_of b (octet_of (described w).kind) (described w).own) × (at < length m)
+    coming_asks = (sound, X.given.span ∙ ap (λ (x : Descriptor). span_of b (octet_of x.kind) x.own) X.given.entry, coming_low)
 
     -- an item of a part: with the nodes of the way to its record, and those between told of
     module _ {way : List ℕ} {place u depth from : ℕ}

@@ -35,8 +35,9 @@ use Rattle.table.specs.Reading.{numbers_at, table_in, count_in}
 use Rattle.table.specs.Octets.{kind}
 use Rattle.kinds.specs.Kinds.{octet_of}
 use Rattle.kinds.specs.declared.Kind.TheVariants.{Message}
-use Rattle.records.specs.Entries.{unpacked, Entered, outermost_code, explicit_count}
-use Rattle.records.specs.declared.entry.Entry.{Entry}
+use Rattle.records.specs.Entries.{outermost_code, explicit_count}
+use Rattle.records.specs.Descriptors.{described, Describes}
+use Rattle.records.specs.declared.descriptor.Descriptor.{Descriptor}
 use Rattle.records.proofs.Promises.{entered_kind, entered_enumerated}
 use Rattle.coding.specs.Content.{listed, segmented, Content, c_boolean, c_integer, c_bits, c_string, c_null, c_enumerated, c_time}
 use Rattle.coding.specs.Value.{Leaf, time, Value, leaf, leaf_octets, octets}
@@ -94,9 +95,9 @@ listed_small b o p (suc n) k e =
     (λ f. let g = eqb-true (two b p) k f in omega (arith, o p, o (p + 1)))
     λ f. listed_small b o (p + 2) n k (rw f at e)
 
-entered_small : {b : List ℕ} {e : Entry} {r : Record} → Entered b e r → Octets b → (q : Simple) → r.body ≡ Plain q → Small q
+entered_small : {b : List ℕ} {e : Descriptor} {r : Record} → Describes b e r → Octets b → (q : Simple) → r.body ≡ Plain q → Small q
 entered_small {b} {e} x o q h ns k f g =
-    let y = entered_enumerated x ns (h ∙ ap Plain f) in
+    let y = entered_enumerated x.entered ns (h ∙ ap Plain f) in
     listed_small b o (e.own + 1) (get_or b e.own 0) k (rw y.is g)
 
 -- What was accepted was accepted up to each place.
@@ -159,21 +160,21 @@ itself by_itself = (refl, refl)
 pub record Accepted (b : List ℕ) (w : ℕ) (m : List ℕ) (at : ℕ) (v : Value) (rest notes : List ℕ) (at₁ from₁ end : ℕ) : Type 0 where
   pub low : at ≤ at₁
   pub deeper : is_choice (record_of b w).body ≡ true → at < at₁
-  pub under : Under b (record_of b w) m at (take (unpacked w).explicit notes) at₁ from₁ end
+  pub under : Under b (record_of b w) m at (take (described w).explicit notes) at₁ from₁ end
   pub left : List ℕ
   pub is : read_bare b 24 (record_of b w) (drop at₁ (take end m)) ≡ got v left
-  pub closes : (n : ℕ) → closing m (take (unpacked w).explicit notes) end (got n left) ≡ got n rest
+  pub closes : (n : ℕ) → closing m (take (described w).explicit notes) end (got n left) ≡ got n rest
 
 -- its contents; the item begins at `lead`
 pub record Contents (b : List ℕ) (w : ℕ) (m : List ℕ) (at lead end : ℕ) (v : Value) (left : List ℕ) (start stop : ℕ) (indefinite : Bool) : Type 0 where
   pub low : at < start
   pub order : start ≤ stop
   pub high : stop ≤ end
-  pub simple : (unpacked w).simple ≡ true
+  pub simple : (described w).simple ≡ true
       → (let c = take (stop - start) (drop start m) in
-      (d u : List ℕ) × Carried (octet_of (unpacked w).kind) c (is_in_segments (get_or m lead 0)) d u × Lawful (octet_of (unpacked w).kind) d × (v ≡ leaf (leaf_of (octet_of (unpacked w).kind) d))
+      (d u : List ℕ) × Carried (octet_of (described w).kind) c (is_in_segments (get_or m lead 0)) d u × Lawful (octet_of (described w).kind) d × (v ≡ leaf (leaf_of (octet_of (described w).kind) d))
       × ((p : ℕ) → p ≤ length c → u ≡ drop p c → (start + p ≤ end) × (left ≡ drop (start + p) (take end m))))
-  pub holds : (unpacked w).simple ≡ false
+  pub holds : (described w).simple ≡ false
       → (let c = take (stop - start) (drop start m) in
       (u : List ℕ) × (held_in b (held b w) indefinite c ≡ got v u)
       × ((p : ℕ) → p ≤ length c → u ≡ drop p c → (start + p ≤ end) × (left ≡ drop (start + p) (take end m))))
@@ -199,7 +200,7 @@ module _ {b index : List ℕ} {w : ℕ} {m : List ℕ} {at from : ℕ} {buf : Li
   abbrev pub its_own : IsRecord b index w
   its_own = (P.type, P.low, P.entry)
 
-  its : Entered b (unpacked w) (table_in b P.type)
+  its : Describes b (described w) (table_in b P.type)
   its = its_entry ready its_own
 
   same_record : R ≡ table_in b P.type
@@ -208,39 +209,39 @@ module _ {b index : List ℕ} {w : ℕ} {m : List ℕ} {at from : ℕ} {buf : Li
   same_body : R.body ≡ (table_in b P.type).body
   same_body = ap (λ (r : Record). r.body) same_record
 
-  choice_is : eqb (octet_of (unpacked w).kind) 50 ≡ is_choice R.body
-  choice_is = its_choice ready its_own (unpacked w) refl
+  choice_is : eqb (octet_of (described w).kind) 50 ≡ is_choice R.body
+  choice_is = its_choice ready its_own (described w) refl
 
   accepted : {notes : List ℕ} {at₁ from₁ end : ℕ} → at ≤ at₁ → (is_choice R.body ≡ true → at < at₁)
-      → Under b R m at (take (unpacked w).explicit notes) at₁ from₁ end → Accepted b w m at Val Rest notes at₁ from₁ end
+      → Under b R m at (take (described w).explicit notes) at₁ from₁ end → Accepted b w m at Val Rest notes at₁ from₁ end
   accepted {notes} {at₁} {from₁} {end} low d U =
       let y = read_bare b 24 R (drop at₁ (take end m)) in
-      let g = closing_through m (length m) (take (unpacked w).explicit notes) end U.around y Val Rest (sym (U.whole 24) ∙ P.fits.is) in
+      let g = closing_through m (length m) (take (described w).explicit notes) end U.around y Val Rest (sym (U.whole 24) ∙ P.fits.is) in
       record { low = low; deeper = d; under = U; left = g.0; is = g.1; closes = g.2 }
 
   -- no tag is explicit
-  module _ (none : (unpacked w).explicit ≤ 0) where
+  module _ (none : (described w).explicit ≤ 0) where
     none_choice : is_choice R.body ≡ true → ⊥
     unfolding explicit_count if outermost_code
     none_choice c =
         let T = table_in b P.type in
         let y : is_choice T.body ≡ true = ap is_choice (sym same_body) ∙ c in
         let q : explicit_count T ≡ length T.tags = rw y refl in
-        let z = nil_of T.tags (omega (arith, q, its.explicit)) in
+        let z = nil_of T.tags (omega (arith, q, its.entered.explicit)) in
         P.tagged (rw z refl)
 
     pub under_none : (notes : List ℕ) → Accepted b w m at Val Rest notes at from (length m)
     under_none notes =
-        accepted (omega arith) (λ c. absurd (none_choice c)) (under_bare ready its_own (unpacked w) refl m at from none P.headed notes)
+        accepted (omega arith) (λ c. absurd (none_choice c)) (under_bare ready its_own (described w) refl m at from none P.headed notes)
 
   -- explicit tags were opened
-  module _ (notes : List ℕ) (y : Result Inner Unread) (O : Opens b R m at (take (unpacked w).explicit notes) y) where
+  module _ (notes : List ℕ) (y : Result Inner Unread) (O : Opens b R m at (take (described w).explicit notes) y) where
     pub must_open : (c : ReadingCause) (l : ℕ) → y ≡ unread c l → ⊥
     must_open c l e = refused≢got (sym (tags_refused ready its_own m at _ y O c l e 24) ∙ P.fits.is)
 
     pub under_open : (x : Inner) → y ≡ Ok x → Accepted b w m at Val Rest notes x.at x.from x.end
     under_open x e =
-        let q : Opens b R m at (take (unpacked w).explicit notes) (Ok x) = rw e at O in
+        let q : Opens b R m at (take (described w).explicit notes) (Ok x) = rw e at O in
         accepted (omega (arith, q.0)) (λ _. q.0) (under_tags ready its_own m at _ y O x e)
 
   module _ {notes : List ℕ} {at₁ from₁ end : ℕ} (U : Accepted b w m at Val Rest notes at₁ from₁ end) where
@@ -253,7 +254,7 @@ module _ {b index : List ℕ} {w : ℕ} {m : List ℕ} {at from : ℕ} {buf : Li
             known = its_own;
             all_octets = om;
             short = P.short;
-            entry = unpacked w;
+            entry = described w;
             entered = refl;
             notes = notes;
             at = at₁;
@@ -266,15 +267,15 @@ module _ {b index : List ℕ} {w : ℕ} {m : List ℕ} {at from : ℕ} {buf : Li
         abbrev Y : Filling b index w m at 24
         Y = record { item = item; start = start; stop = stop; indefinite = indefinite; within = W }
 
-        simple_part : (unpacked w).simple ≡ true
-            → (d u : List ℕ) × Carried (octet_of (unpacked w).kind) (C Y) (is_in_segments (get_or m at₁ 0)) d u × Lawful (octet_of (unpacked w).kind) d × (Val ≡ leaf (leaf_of (octet_of (unpacked w).kind) d))
+        simple_part : (described w).simple ≡ true
+            → (d u : List ℕ) × Carried (octet_of (described w).kind) (C Y) (is_in_segments (get_or m at₁ 0)) d u × Lawful (octet_of (described w).kind) d × (Val ≡ leaf (leaf_of (octet_of (described w).kind) d))
             × ((p : ℕ) → p ≤ length (C Y) → u ≡ drop p (C Y) → (start + p ≤ end) × (U.left ≡ drop (start + p) (take end m)))
         simple_part s =
             let (k, q) = is_plain Y s in
             let l = length (S Y) in
             let (x, u, e, f) = then_through (read_leaf k W.parts indefinite l (end - stop) (C Y)) _ Val U.left (sym (leaf_read Y s k q) ∙ U.is) in
             let (d, a, c) = carried_of k W.parts indefinite l (end - stop) (C Y) x u e in
-            let i : (octet_of (unpacked w).kind) ≡ kind (Plain k) = entered_kind its ∙ ap kind (sym same_body ∙ q) in
+            let i : (octet_of (described w).kind) ≡ kind (Plain k) = entered_kind its ∙ ap kind (sym same_body ∙ q) in
             let y = content_leaf c (entered_small its ob k (sym same_body ∙ q)) in (
               d,
               u,
@@ -289,7 +290,7 @@ module _ {b index : List ℕ} {w : ℕ} {m : List ℕ} {at from : ℕ} {buf : Li
                   ),
             )
 
-        items_part : (unpacked w).simple ≡ false
+        items_part : (described w).simple ≡ false
             → (u : List ℕ) × (held_in b (held b w) indefinite (C Y) ≡ got Val u)
             × ((p : ℕ) → p ≤ length (C Y) → u ≡ drop p (C Y) → (start + p ≤ end) × (U.left ≡ drop (start + p) (take end m)))
         items_part n = go (Held Y n) refl (fine Y n)
@@ -313,11 +314,11 @@ module _ {b index : List ℕ} {w : ℕ} {m : List ℕ} {at from : ℕ} {buf : Li
         contents_at low = record { low = low; order = W.ordered; high = W.high; simple = simple_part; holds = items_part }
 
       -- a CHOICE stands in no item of its own
-      pub choice_contents : (octet_of (unpacked w).kind) ≡ 50 → Contents b w m at at₁ end Val U.left at₁ end false
-      choice_contents k = contents_at at₁ end false (contents_bare item k) (U.deeper (sym choice_is ∙ eq-eqb (octet_of (unpacked w).kind) 50 k))
+      pub choice_contents : (octet_of (described w).kind) ≡ 50 → Contents b w m at at₁ end Val U.left at₁ end false
+      choice_contents k = contents_at at₁ end false (contents_bare item k) (U.deeper (sym choice_is ∙ eq-eqb (octet_of (described w).kind) 50 k))
 
       -- an item whose length is read again
-      pub read_contents : (octet_of (unpacked w).kind ≡ 50 → ⊥) → (x : Extent)
+      pub read_contents : (octet_of (described w).kind ≡ 50 → ⊥) → (x : Extent)
           → x ≡ again_at (take end m) from₁
           → Contents b w m at at₁ end Val U.left x.start x.end x.indefinite
       read_contents k x again =
@@ -347,9 +348,9 @@ module _ {b index : List ℕ} {w : ℕ} {m : List ℕ} {at from : ℕ} {buf : Li
       part_high = omega (arith, X.high, U.under.high)
 
       -- a leaf
-      module _ (e : Entry) (ee : e ≡ unpacked w) (simple : e.simple ≡ true) where
-        its_simple : (unpacked w).simple ≡ true
-        its_simple = ap (λ (x : Entry). x.simple) (sym ee) ∙ simple
+      module _ (e : Descriptor) (ee : e ≡ described w) (simple : e.simple ≡ true) where
+        its_simple : (described w).simple ≡ true
+        its_simple = ap (λ (x : Descriptor). x.simple) (sym ee) ∙ simple
 
         abbrev Its : List ℕ
         Its = (X.simple its_simple).0
@@ -357,8 +358,8 @@ module _ {b index : List ℕ} {w : ℕ} {m : List ℕ} {at from : ℕ} {buf : Li
         abbrev LeftIn : List ℕ
         LeftIn = (X.simple its_simple).1
 
-        its_kind : (octet_of e.kind) ≡ (octet_of (unpacked w).kind)
-        its_kind = ap (λ (x : Entry). octet_of x.kind) ee
+        its_kind : (octet_of e.kind) ≡ (octet_of (described w).kind)
+        its_kind = ap (λ (x : Descriptor). octet_of x.kind) ee
 
         its_carried : Carried (octet_of e.kind) Part (is_in_segments (get_or m at₁ 0)) Its LeftIn
         its_carried = subst (λ (i : ℕ). Carried i Part (is_in_segments (get_or m at₁ 0)) Its LeftIn) (sym its_kind) (X.simple its_simple).2
@@ -438,7 +439,7 @@ module _ {b index : List ℕ} {w : ℕ} {m : List ℕ} {at from : ℕ} {buf : Li
               (en ∙ ap (λ (x : Leaf). to + length (leaf_octets x)) (sym same_leaf)) (eb ∙ ap (λ (x : Leaf). sets buf to (leaf_octets x)) (sym same_leaf)))
 
       -- items
-      module _ (holds : (unpacked w).simple ≡ false) where
+      module _ (holds : (described w).simple ≡ false) where
         pub items_ask : ToPlace b index w Part indefinite buf to
         items_ask =
             let (u, e, f) = X.holds holds in
@@ -473,20 +474,20 @@ module _ {b index : List ℕ} {w : ℕ} {m : List ℕ} {at from : ℕ} {buf : Li
             behind = sym (got_rest k) ∙ q;
           }
 
-      pub bare_placed : (unpacked w).explicit ≤ 0 → IsPlaced (value_in b w (drop at m)) m to buf buf₁ (record { end = stop; next = next })
+      pub bare_placed : (described w).explicit ≤ 0 → IsPlaced (value_in b w (drop at m)) m to buf buf₁ (record { end = stop; next = next })
       unfolding Around closing
       bare_placed l =
-          let z : (unpacked w).explicit ≡ 0 = omega arith in
+          let z : (described w).explicit ≡ 0 = omega arith in
           let n : length m ≡ end = subst (λ (i : ℕ). Around (length m) (take i notes) end) z U.under.around in
           let r : ◌≡◌ {A = Answer ReadingCause ℕ} (got 0 U.left) (got 0 Rest)
           = subst (λ (i : ℕ). ◌≡◌ {A = Answer ReadingCause ℕ} (closing m (take i notes) end (got 0 U.left)) (got 0 Rest)) z (U.closes 0) in
           let q : Rest ≡ drop stop m = sym (got_rest r) ∙ S.behind ∙ ap (drop stop) (ap (λ (i : ℕ). take i m) (sym n) ∙ take-length m) in
           ended_placed stop (omega (arith, S.within)) q
 
-      pub close_asks : (e : Entry) → e ≡ unpacked w
+      pub close_asks : (e : Descriptor) → e ≡ described w
           → (e.explicit ≤ 4) × (stop ≤ end) × (length m ≤ 8192) × (0 < 16386) × Around (length m) (take e.explicit notes) end
       close_asks e ee =
-          let k : e.explicit ≡ (unpacked w).explicit = ap (λ (x : Entry). x.explicit) ee in (
+          let k : e.explicit ≡ (described w).explicit = ap (λ (x : Descriptor). x.explicit) ee in (
             omega (arith, its_count ready its_own, its_few ready its_own),
             S.within,
             P.short,
@@ -494,12 +495,12 @@ module _ {b index : List ℕ} {w : ℕ} {m : List ℕ} {at from : ℕ} {buf : Li
             subst (λ (i : ℕ). Around (length m) (take i notes) end) (sym k) U.under.around,
           )
 
-      module _ (e : Entry) (ee : e ≡ unpacked w) (y : Result Judged Unread)
+      module _ (e : Descriptor) (ee : e ≡ described w) (y : Result Judged Unread)
           (ey : y ≡ told m (λ (n : ℕ). n) (closing m (take e.explicit notes) end (got 0 (drop stop (take end m))))) where
         closed_told : y ≡ told m (λ (n : ℕ). n) (got 0 Rest)
         closed_told =
-            ey ∙ ap (λ (x : Entry). told m (λ (n : ℕ). n) (closing m (take x.explicit notes) end (got 0 (drop stop (take end m))))) ee
-            ∙ ap (λ (u : List ℕ). told m (λ (n : ℕ). n) (closing m (take (unpacked w).explicit notes) end (got 0 u))) (sym S.behind)
+            ey ∙ ap (λ (x : Descriptor). told m (λ (n : ℕ). n) (closing m (take x.explicit notes) end (got 0 (drop stop (take end m))))) ee
+            ∙ ap (λ (u : List ℕ). told m (λ (n : ℕ). n) (closing m (take (described w).explicit notes) end (got 0 u))) (sym S.behind)
             ∙ ap (told m (λ (n : ℕ). n)) (U.closes 0)
 
         pub must_close : (c : ReadingCause) (l : ℕ) → y ≡ unread c l → ⊥
@@ -525,7 +526,7 @@ module _ {b index : List ℕ} {w : ℕ} {m : List ℕ} {at from : ℕ} {buf : Li
             ended_placed last (omega arith) (rest_behind ∙ ap (λ (i : ℕ). drop i m) (sym z))
 
 -- a whole message
-module _ (b : List ℕ) (w t : ℕ) (whole : unpacked w ≡ record { code = 0; own = t; kind = Message; explicit = 0; simple = false }) (m : List ℕ) where
+module _ (b : List ℕ) (w t : ℕ) (whole : described w ≡ record { code = 0; own = t; kind = Message; explicit = 0; simple = false }) (m : List ℕ) where
   whole_held : held b w ≡ message t
   unfolding holder_in if
   whole_held = rw whole refl
@@ -535,7 +536,7 @@ module _ (b : List ℕ) (w t : ℕ) (whole : unpacked w ≡ record { code = 0; o
   whole_asks {buf = buf} {to = to} h l F =
       record {
         known = of_message t h whole;
-        holds = ap (λ (e : Entry). e.simple) whole;
+        holds = ap (λ (e : Descriptor). e.simple) whole;
         short = l;
         fits = subst (λ (x : Holder). Fits (held_in b x false m) to buf) (sym whole_held) F;
       }

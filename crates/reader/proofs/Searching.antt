@@ -20,8 +20,9 @@ use Rattle.octets.proofs.Tests.{test}
 use Rattle.table.specs.Syntax.{Member, Body, Plain, Sequence, Set, SequenceOf, SetOf, Choice, references}
 use Rattle.table.specs.Reading.{table_in, count_in}
 use Rattle.kinds.specs.Kinds.{octet_of}
-use Rattle.records.specs.Entries.{unpacked, span_of}
-use Rattle.records.specs.declared.entry.Entry.{Entry}
+use Rattle.records.specs.Entries.{span_of}
+use Rattle.records.specs.Descriptors.{described}
+use Rattle.records.specs.declared.descriptor.Descriptor.{Descriptor}
 use Rattle.records.specs.declared.entry.Span.{Span}
 use Rattle.coding.specs.Awaited.{types}
 use Rattle.reader.specs.Codes.{under, starts_with, search_in, hit}
@@ -36,7 +37,7 @@ use Rattle.reader.proofs.Items.{pending_free, no_cons}
 use Rattle.reader.proofs.ItemsSearch.{optional_types}
 use Rattle.reader.proofs.Spans.{PartAt, Spanned, turns_by, turn_is, turn_not, by_member, entry_of, held_body, its, awaits_none, awaits_hit}
 use Rattle.reader.proofs.Spans.{awaits_skip, awaits_stop, awaits_come, tabled_some, tabled_none}
-use Rattle.checker.proofs.Ready.{Ready}
+use Rattle.checker.proofs.Ready.{Ready, described_in}
 use Rattle.reader.proofs.Lent.{Seeks}
 
 -- the types of parts are records
@@ -71,7 +72,7 @@ module _ {b index : List ℕ} (R : Ready b index) where
   part_low : (w : ℕ) → Known b index w → (k : ℕ) (m : Member) (l : List Member) → drop k (parts_of (held b w)) ≡ m ∷ l → m.type < count_in b
   unfolding holder_in if parts_of
   part_low w (of_record t h q) k m l e =
-      let x = R.filled.entered t h in
+      let x = described_in R t h in
       low_record t h k m l (rw (q, held_body x R.filled.short) at e)
   part_low w (of_message t h q) k m l e = let z = only_one t k m l (rw q at e) in rw z h
 
@@ -112,12 +113,12 @@ module _ (i : ℕ) (came : List ℕ) (c : ReadingCause) where
   unfit_of (inside (Choice ts)) clear n q = refl
   unfit_of (message t) clear n q = refl
 
-module _ {b index : List ℕ} {w : ℕ} {came : List ℕ} (Z : Seeks b index w came) (e : Entry) (ee : e ≡ unpacked w)
+module _ {b index : List ℕ} {w : ℕ} {came : List ℕ} (Z : Seeks b index w came) (e : Descriptor) (ee : e ≡ described w)
     (g : Bool) (eg : g ≡ (eqb (octet_of e.kind) 16 || eqb (octet_of e.kind) 17)) (i : ℕ) where
-  kind_members : g ≡ (eqb (octet_of (unpacked w).kind) 16 || eqb (octet_of (unpacked w).kind) 17)
-  kind_members = eg ∙ ap (λ (x : Entry). eqb (octet_of x.kind) 16 || eqb (octet_of x.kind) 17) ee
+  kind_members : g ≡ (eqb (octet_of (described w).kind) 16 || eqb (octet_of (described w).kind) 17)
+  kind_members = eg ∙ ap (λ (x : Descriptor). eqb (octet_of x.kind) 16 || eqb (octet_of x.kind) 17) ee
 
-  pub has_members_lem : g ≡ true → (eqb (octet_of (unpacked w).kind) 16 || eqb (octet_of (unpacked w).kind) 17) ≡ true
+  pub has_members_lem : g ≡ true → (eqb (octet_of (described w).kind) 16 || eqb (octet_of (described w).kind) 17) ≡ true
   has_members_lem y = sym kind_members ∙ y
 
   by_it : g ≡ by_member (manner (held b w))
@@ -139,24 +140,24 @@ module _ {b index : List ℕ} {w : ℕ} {came : List ℕ} (Z : Seeks b index w c
   unfit_other c n q = unfit_of i came c (held b w) Z.clear (sym by_it ∙ n) q
 
 -- an entry whose parts are sought, and where they are
-pub record Parted (b index : List ℕ) (w : ℕ) (came : List ℕ) (e : Entry) (s : Span) : Type 0 where
+pub record Parted (b index : List ℕ) (w : ℕ) (came : List ℕ) (e : Descriptor) (s : Span) : Type 0 where
   pub sound : Seeks b index w came
-  pub entry : e ≡ unpacked w
+  pub entry : e ≡ described w
   pub span : s ≡ span_of b (octet_of e.kind) e.own
 
-pub parted : {b index : List ℕ} {w : ℕ} {came : List ℕ} {e : Entry} {s : Span} → Seeks b index w came → e ≡ unpacked w → s ≡ span_of b (octet_of e.kind) e.own
+pub parted : {b index : List ℕ} {w : ℕ} {came : List ℕ} {e : Descriptor} {s : Span} → Seeks b index w came → e ≡ described w → s ≡ span_of b (octet_of e.kind) e.own
     → Parted b index w came e s
 parted z e s = record { sound = z; entry = e; span = s }
 
-module _ {b index : List ℕ} {w : ℕ} {came : List ℕ} {e : Entry} {s : Span} (D : Parted b index w came e s) where
+module _ {b index : List ℕ} {w : ℕ} {came : List ℕ} {e : Descriptor} {s : Span} (D : Parted b index w came e s) where
   abbrev H : Holder
   H = held b w
 
-  kind_is : (octet_of e.kind) ≡ (octet_of (unpacked w).kind)
-  kind_is = ap (λ (x : Entry). octet_of x.kind) D.entry
+  kind_is : (octet_of e.kind) ≡ (octet_of (described w).kind)
+  kind_is = ap (λ (x : Descriptor). octet_of x.kind) D.entry
 
-  pub spanned : Spanned b H (octet_of (unpacked w).kind) s
-  spanned = its D.sound.ready w D.sound.known s (D.span ∙ ap (λ (x : Entry). span_of b (octet_of x.kind) x.own) D.entry)
+  pub spanned : Spanned b H (octet_of (described w).kind) s
+  spanned = its D.sound.ready w D.sound.known s (D.span ∙ ap (λ (x : Descriptor). span_of b (octet_of x.kind) x.own) D.entry)
 
   pub few : s.count ≤ 16
   few = spanned.few
@@ -168,10 +169,10 @@ module _ {b index : List ℕ} {w : ℕ} {came : List ℕ} {e : Entry} {s : Span}
   within = spanned.inside
 
   is_turn : (octet_of e.kind) ≡ 16 → manner H ≡ in_turn
-  is_turn q = turn_is (manner H) (sym (entry_of D.sound.ready w D.sound.known).sequence ∙ eq-eqb (octet_of (unpacked w).kind) 16 (sym kind_is ∙ q))
+  is_turn q = turn_is (manner H) (sym (entry_of D.sound.ready w D.sound.known).sequence ∙ eq-eqb (octet_of (described w).kind) 16 (sym kind_is ∙ q))
 
   no_turn : (octet_of e.kind ≡ 16 → ⊥) → manner H ≡ in_turn → ⊥
-  no_turn n = turn_not (manner H) (sym (entry_of D.sound.ready w D.sound.known).sequence ∙ ne_eqb (octet_of (unpacked w).kind) 16 (λ z. n (kind_is ∙ z)))
+  no_turn n = turn_not (manner H) (sym (entry_of D.sound.ready w D.sound.known).sequence ∙ ne_eqb (octet_of (described w).kind) 16 (λ z. n (kind_is ∙ z)))
 
   pub clear_turn : manner H ≡ in_turn → (p : ℕ) → get_or came p 0 ≡ 0
   clear_turn q = D.sound.clear (λ z. true≢false (ap turns_by (sym q ∙ z)))
@@ -200,7 +201,7 @@ module _ {b index : List ℕ} {w : ℕ} {came : List ℕ} {e : Entry} {s : Span}
 
   -- where a part stands in the table
   module _ (k : ℕ) (l : k < s.count) where
-    abbrev AtK : PartAt b H (octet_of (unpacked w).kind) s k
+    abbrev AtK : PartAt b H (octet_of (described w).kind) s k
     AtK = spanned.at k l
 
     pub type_low : (t : ℕ) → t ≡ get_or b (s.first + s.step * k) 0 → t < count_in b

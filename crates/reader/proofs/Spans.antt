@@ -21,8 +21,9 @@ use Rattle.table.specs.Octets.{kind}
 use Rattle.table.specs.Reading.{members_at, every_at, table_in, count_in}
 use Rattle.kinds.specs.Kinds.{octet_of}
 use Rattle.kinds.specs.declared.Kind.TheVariants.{Message}
-use Rattle.records.specs.Entries.{unpacked, span_of, Entered}
-use Rattle.records.specs.declared.entry.Entry.{Entry}
+use Rattle.records.specs.Entries.{span_of}
+use Rattle.records.specs.Descriptors.{described, Describes}
+use Rattle.records.specs.declared.descriptor.Descriptor.{Descriptor}
 use Rattle.records.specs.declared.entry.Span.{Span}
 use Rattle.records.proofs.Promises.{entered_kind, entered_members, entered_choice, entered_list}
 use Rattle.reader.specs.Items.{Holder, inside, message, Manner, in_turn, each_once, repeated, single, manner, parts_of, optionals, Placed}
@@ -30,7 +31,7 @@ use Rattle.reader.specs.Items.{pending, up_to_mandatory, within, left, awaits, f
 use Rattle.reader.specs.Records.{holder_in, Known, of_record, of_message}
 use Rattle.reader.specs.Sought.{held, tabled, tabled_count}
 use Rattle.reader.proofs.Items.{pending_free, pending_come}
-use Rattle.checker.proofs.Ready.{Ready}
+use Rattle.checker.proofs.Ready.{Ready, described_in}
 
 members_at_lem : (b : List ℕ) (p n i : ℕ) → i < n
     → drop i (members_at b p n) ≡ record { type = get_or b (p + 2 * i) 0; optional = eqb (get_or b (p + 2 * i + 1) 0) 1 } ∷ drop (suc i) (members_at b p n)
@@ -80,25 +81,25 @@ kind_known (SequenceOf t) z = omega arith
 kind_known (SetOf t) z = omega arith
 kind_known (Choice ts) z = omega arith
 
-module _ {b : List ℕ} {e : Entry} {r : Record} (x : Entered b e r) (short : length b ≤ 8192) where
+module _ {b : List ℕ} {e : Descriptor} {r : Record} (x : Describes b e r) (short : length b ≤ 8192) where
   abbrev S : Span
   S = span_of b (octet_of e.kind) e.own
 
   plain_span : (q : Simple) → r.body ≡ Plain q → (S.count ≡ 0)
   unfolding span_of kind if
-  plain_span Boolean h = rw (entered_kind x ∙ ap kind h) refl
-  plain_span Integer h = rw (entered_kind x ∙ ap kind h) refl
-  plain_span BitString h = rw (entered_kind x ∙ ap kind h) refl
-  plain_span OctetString h = rw (entered_kind x ∙ ap kind h) refl
-  plain_span Null h = rw (entered_kind x ∙ ap kind h) refl
-  plain_span (Enumerated ns) h = rw (entered_kind x ∙ ap kind h) refl
-  plain_span (Time Utc) h = rw (entered_kind x ∙ ap kind h) refl
-  plain_span (Time Generalized) h = rw (entered_kind x ∙ ap kind h) refl
+  plain_span Boolean h = rw (entered_kind x.entered ∙ ap kind h) refl
+  plain_span Integer h = rw (entered_kind x.entered ∙ ap kind h) refl
+  plain_span BitString h = rw (entered_kind x.entered ∙ ap kind h) refl
+  plain_span OctetString h = rw (entered_kind x.entered ∙ ap kind h) refl
+  plain_span Null h = rw (entered_kind x.entered ∙ ap kind h) refl
+  plain_span (Enumerated ns) h = rw (entered_kind x.entered ∙ ap kind h) refl
+  plain_span (Time Utc) h = rw (entered_kind x.entered ∙ ap kind h) refl
+  plain_span (Time Generalized) h = rw (entered_kind x.entered ∙ ap kind h) refl
 
   members_spanned : (ms : List Member) (h : Holder) → (r.body ≡ Sequence ms) ⊎ (r.body ≡ Set ms) → parts_of h ≡ ms → tabled_count h ≡ length ms
       → Spanned b h (octet_of e.kind) S
   members_spanned ms h y p c =
-      let w = entered_members x ms y in
+      let w = entered_members x.entered ms y in
       let o = e.own in
       rw w.span
       (record {
@@ -119,7 +120,7 @@ module _ {b : List ℕ} {e : Entry} {r : Record} (x : Entered b e r) (short : le
       → (eqb (octet_of e.kind) 16 || eqb (octet_of e.kind) 17) ≡ false
       → Spanned b h (octet_of e.kind) S
   list_spanned t h y p c m =
-      let w = entered_list x t y in
+      let w = entered_list x.entered t y in
       rw w.span
       (record {
         count = sym c;
@@ -138,7 +139,7 @@ module _ {b : List ℕ} {e : Entry} {r : Record} (x : Entered b e r) (short : le
       })
 
   kind_of_lem : (y : Body) → r.body ≡ y → (k : ℕ) → kind y ≡ k → octet_of e.kind ≡ k
-  kind_of_lem y h k q = entered_kind x ∙ ap kind h ∙ q
+  kind_of_lem y h k q = entered_kind x.entered ∙ ap kind h ∙ q
 
   pub spanned_body : (y : Body) → r.body ≡ y → Spanned b (inside y) (octet_of e.kind) S
   unfolding parts_of tabled_count kind
@@ -150,7 +151,7 @@ module _ {b : List ℕ} {e : Entry} {r : Record} (x : Entered b e r) (short : le
   spanned_body (SequenceOf t) h = list_spanned t (inside (SequenceOf t)) (inl h) refl refl (rw (kind_of_lem (SequenceOf t) h 48 refl) refl)
   spanned_body (SetOf t) h = list_spanned t (inside (SetOf t)) (inr h) refl refl (rw (kind_of_lem (SetOf t) h 49 refl) refl)
   spanned_body (Choice ts) h =
-      let w = entered_choice x ts h in
+      let w = entered_choice x.entered ts h in
       let o = e.own in
       let m : (eqb (octet_of e.kind) 16 || eqb (octet_of e.kind) 17) ≡ false = rw (kind_of_lem (Choice ts) h 50 refl) refl in
       rw w.span
@@ -171,7 +172,7 @@ module _ {b : List ℕ} {e : Entry} {r : Record} (x : Entered b e r) (short : le
   -- the entry of a record is no message's
   pub held_body : holder_in b e ≡ inside r.body
   unfolding holder_in if
-  held_body = rw (not_message r.body refl, x.body) refl
+  held_body = rw (not_message r.body refl, x.entered.body) refl
     where
       not_message : (y : Body) → r.body ≡ y → eqb (octet_of e.kind) 51 ≡ false
       not_message y h = ne_eqb (octet_of e.kind) 51 (λ z. kind_known y (sym (kind_of_lem y h (kind y) refl) ∙ z))
@@ -232,20 +233,20 @@ member_kind (SetOf t) = refl
 member_kind (Choice ts) = refl
 
 -- an entry that is known
-pub record EntryOf (b : List ℕ) (e : Entry) : Type 0 where
+pub record EntryOf (b : List ℕ) (e : Descriptor) : Type 0 where
   pub spanned : Spanned b (holder_in b e) (octet_of e.kind) (span_of b (octet_of e.kind) e.own)
   pub sequence : eqb (octet_of e.kind) 16 ≡ turns_by (manner (holder_in b e))
   pub members : (eqb (octet_of e.kind) 16 || eqb (octet_of e.kind) 17) ≡ by_member (manner (holder_in b e))
 
 module _ {b index : List ℕ} (R : Ready b index) where
-  entry_record : (t : ℕ) → t < count_in b → EntryOf b (unpacked (get_or index t 0))
+  entry_record : (t : ℕ) → t < count_in b → EntryOf b (described (get_or index t 0))
   entry_record t h =
-      let x = R.filled.entered t h in
+      let x = described_in R t h in
       let l = R.filled.short in
       record {
         spanned = rw (held_body x l) (spanned_body x l (table_in b t).body refl);
-        sequence = rw (held_body x l) (ap (λ (k : ℕ). eqb k 16) (entered_kind x) ∙ turn_kind (table_in b t).body);
-        members = rw (held_body x l) (ap (λ (k : ℕ). eqb k 16 || eqb k 17) (entered_kind x) ∙ member_kind (table_in b t).body);
+        sequence = rw (held_body x l) (ap (λ (k : ℕ). eqb k 16) (entered_kind x.entered) ∙ turn_kind (table_in b t).body);
+        members = rw (held_body x l) (ap (λ (k : ℕ). eqb k 16 || eqb k 17) (entered_kind x.entered) ∙ member_kind (table_in b t).body);
       }
 
   entry_message : (t : ℕ) → EntryOf b (record { code = 0; own = t; kind = Message; explicit = 0; simple = false })
@@ -257,7 +258,7 @@ module _ {b index : List ℕ} (R : Ready b index) where
         members = refl;
       }
 
-  pub entry_of : (w : ℕ) → Known b index w → EntryOf b (unpacked w)
+  pub entry_of : (w : ℕ) → Known b index w → EntryOf b (described w)
   entry_of w (of_record t h q) = rw q (entry_record t h)
   entry_of w (of_message t h q) = rw q (entry_message t)
 
@@ -331,11 +332,11 @@ unfolding tabled_count tabled first
 tabled_none (inside y) came i f l = awaits_none (inside y) came i f l
 tabled_none (message t) came i f l = refl
 
-module _ {b index : List ℕ} (R : Ready b index) (w : ℕ) (known : Known b index w) (s : Span) (es : s ≡ span_of b (octet_of (unpacked w).kind) (unpacked w).own) where
+module _ {b index : List ℕ} (R : Ready b index) (w : ℕ) (known : Known b index w) (s : Span) (es : s ≡ span_of b (octet_of (described w).kind) (described w).own) where
   abbrev H : Holder
   H = held b w
 
-  pub its : Spanned b H (octet_of (unpacked w).kind) s
+  pub its : Spanned b H (octet_of (described w).kind) s
   its = rw es (entry_of R w known).spanned
 
   pub span_few : s.count ≤ 16
@@ -347,7 +348,7 @@ module _ {b index : List ℕ} (R : Ready b index) (w : ℕ) (known : Known b ind
   -- the loop over all that are left
   module _ (came : List ℕ) (k : ℕ) (g : Placed → Bool) where
     module _ (l : k < s.count) where
-      abbrev pub its_part : PartAt b H (octet_of (unpacked w).kind) s k
+      abbrev pub its_part : PartAt b H (octet_of (described w).kind) s k
       its_part = its.at k l
 
       pub any_free : get_or came k 0 ≡ 0 → g (k, its_part.part) ≡ true → any g (left H k came) ≡ true
@@ -362,7 +363,7 @@ module _ {b index : List ℕ} (R : Ready b index) (w : ℕ) (known : Known b ind
       any_come z = rw (left_come H came k its_part.part its_part.is z) refl
 
   -- whether one of them is mandatory, or there is one at all
-  module _ (members : (eqb (octet_of (unpacked w).kind) 16 || eqb (octet_of (unpacked w).kind) 17) ≡ true) (came : List ℕ) (k : ℕ) (flag : Bool) where
+  module _ (members : (eqb (octet_of (described w).kind) 16 || eqb (octet_of (described w).kind) 17) ≡ true) (came : List ℕ) (k : ℕ) (flag : Bool) where
     abbrev pub Owed : Placed → Bool
     Owed x = flag || not x.1.optional
 
@@ -383,8 +384,8 @@ module _ {b index : List ℕ} (R : Ready b index) (w : ℕ) (known : Known b ind
         pub lacks_skip : get_or came k 0 ≡ 0 → flag ≡ false → o ≡ true → any Owed (left H k came) ≡ any Owed (left H (k + 1) came)
         lacks_skip z f e = any_skip came k Owed l z (rw (← its_optional, e, f) refl)
 
-    not_message : eqb (octet_of (unpacked w).kind) 51 ≡ false
-    not_message = go (octet_of (unpacked w).kind) members
+    not_message : eqb (octet_of (described w).kind) 51 ≡ false
+    not_message = go (octet_of (described w).kind) members
       where
         go : (n : ℕ) → (eqb n 16 || eqb n 17) ≡ true → eqb n 51 ≡ false
         go n e = or_by (eqb n 16) (eqb n 17) e (λ q. rw (eqb-true n 16 q) refl) λ q. rw (eqb-true n 17 q) refl

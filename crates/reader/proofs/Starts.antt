@@ -16,8 +16,9 @@ use Rattle.table.specs.Syntax.{Tag, Body, Plain, Sequence, Set, SequenceOf, SetO
 use Rattle.table.specs.Syntax.{Boolean, Integer, BitString, OctetString, Null, Enumerated, Time}
 use Rattle.table.specs.Octets.{kind}
 use Rattle.kinds.specs.Kinds.{octet_of}
-use Rattle.records.specs.Entries.{unpacked, all_but_last, explicit_count, Entered}
-use Rattle.records.specs.declared.entry.Entry.{Entry}
+use Rattle.records.specs.Entries.{all_but_last, explicit_count}
+use Rattle.records.specs.Descriptors.{described, Describes}
+use Rattle.records.specs.declared.descriptor.Descriptor.{Descriptor}
 use Rattle.records.proofs.Promises.{entered_kind}
 use Rattle.coding.specs.Content.{segmented}
 use Rattle.reader.specs.Codes.{first_of, own_either, either_at, either, coded}
@@ -117,38 +118,38 @@ string_kind (SequenceOf t) = refl
 string_kind (SetOf t) = refl
 string_kind (Choice ts) = refl
 
-module _ {b : List ℕ} {e : Entry} {r : Record} (x : Entered b e r) (j : ℕ) where
+module _ {b : List ℕ} {e : Descriptor} {r : Record} (x : Describes b e r) (j : ℕ) where
   pub either_entry : (g : Bool) → g ≡ (eqb (octet_of e.kind) 3 || eqb (octet_of e.kind) 4) → e.explicit ≡ j → either_at r j ≡ g
   unfolding either_at
   either_entry g eg q =
-      let s : g ≡ own_either r.body = eg ∙ ap (λ (k : ℕ). eqb k 3 || eqb k 4) (entered_kind x) ∙ string_kind r.body in
-      rw (← s, eq-eqb (explicit_count r) j (sym x.explicit ∙ q)) (and_true g)
+      let s : g ≡ own_either r.body = eg ∙ ap (λ (k : ℕ). eqb k 3 || eqb k 4) (entered_kind x.entered) ∙ string_kind r.body in
+      rw (← s, eq-eqb (explicit_count r) j (sym x.entered.explicit ∙ q)) (and_true g)
 
   pub either_explicit : (e.explicit ≡ j → ⊥) → either_at r j ≡ false
   unfolding either_at
-  either_explicit n = rw (ne_eqb (explicit_count r) j (λ z. n (x.explicit ∙ z))) (and_false (own_either r.body))
+  either_explicit n = rw (ne_eqb (explicit_count r) j (λ z. n (x.entered.explicit ∙ z))) (and_false (own_either r.body))
 
 -- the ways of the test of an entry
-module _ (w code f : ℕ) (ef : f ≡ (unpacked w).code) where
+module _ (w code f : ℕ) (ef : f ≡ (described w).code) where
   pub begins_itself : f ≡ code → Begins w code true
-  begins_itself q b r x = sym (coded_is (either r) (first_of r) code (sym x.code ∙ sym ef ∙ q))
+  begins_itself q b r x = sym (coded_is (either r) (first_of r) code (sym x.entered.code ∙ sym ef ∙ q))
 
   module _ (n : f ≡ code → ⊥) where
-    other_first : {b : List ℕ} {r : Record} → Entered b (unpacked w) r → first_of r ≡ code → ⊥
-    other_first x z = n (ef ∙ x.code ∙ z)
+    other_first : {b : List ℕ} {r : Record} → Describes b (described w) r → first_of r ≡ code → ⊥
+    other_first x z = n (ef ∙ x.entered.code ∙ z)
 
     pub begins_not : (f + 32 ≡ code → ⊥) → Begins w code false
-    begins_not k b r x = sym (coded_other (either r) (first_of r) code (other_first x) (λ z. k (ap (λ (i : ℕ). i + 32) (ef ∙ x.code) ∙ z)))
+    begins_not k b r x = sym (coded_other (either r) (first_of r) code (other_first x) (λ z. k (ap (λ (i : ℕ). i + 32) (ef ∙ x.entered.code) ∙ z)))
 
-    module _ (e : Entry) (ee : e ≡ unpacked w) where
+    module _ (e : Descriptor) (ee : e ≡ described w) where
       pub begins_under : (e.explicit ≡ 0 → ⊥) → Begins w code false
       begins_under k b r x =
-          rw (either_explicit x 0 (λ z. k (ap (λ (i : Entry). i.explicit) ee ∙ z)))
+          rw (either_explicit x 0 (λ z. k (ap (λ (i : Descriptor). i.explicit) ee ∙ z)))
           (sym (coded_one (first_of r) code ∙ ne_eqb (first_of r) code (other_first x)))
 
       pub begins_string : f + 32 ≡ code → e.explicit ≡ 0 → (g : Bool) → g ≡ (eqb (octet_of e.kind) 3 || eqb (octet_of e.kind) 4) → Begins w code g
       unfolding coded
       begins_string q z g eg b r x =
-          let h = either_entry x 0 g (eg ∙ ap (λ (i : Entry). eqb (octet_of i.kind) 3 || eqb (octet_of i.kind) 4) ee) (ap (λ (i : Entry). i.explicit) (sym ee) ∙ z) in
-          let p : first_of r + 32 ≡ code = ap (λ (i : ℕ). i + 32) (sym (ef ∙ x.code)) ∙ q in
+          let h = either_entry x 0 g (eg ∙ ap (λ (i : Descriptor). eqb (octet_of i.kind) 3 || eqb (octet_of i.kind) 4) ee) (ap (λ (i : Descriptor). i.explicit) (sym ee) ∙ z) in
+          let p : first_of r + 32 ≡ code = ap (λ (i : ℕ). i + 32) (sym (ef ∙ x.entered.code)) ∙ q in
           rw (h, ne_eqb (first_of r) code (other_first x), eq-eqb (first_of r + 32) code p) (sym (and_true g))

@@ -27,8 +27,9 @@ use Rattle.ber.proofs.Told.{identifier_read, identifier_refused}
 use Rattle.table.specs.Syntax.{Tag, Body, Plain, Sequence, Set, SequenceOf, SetOf, Choice, Record, is_choice, constructed}
 use Rattle.table.specs.Reading.{table_in, count_in}
 use Rattle.kinds.specs.Kinds.{octet_of}
-use Rattle.records.specs.Entries.{unpacked, tag_count, tag_place, all_but_last, Entered, first_code, outermost_code, explicit_count}
-use Rattle.records.specs.declared.entry.Entry.{Entry}
+use Rattle.records.specs.Entries.{tag_count, tag_place, all_but_last, first_code, outermost_code, explicit_count}
+use Rattle.records.specs.Descriptors.{entry_of, described, Describes}
+use Rattle.records.specs.declared.descriptor.Descriptor.{Descriptor}
 use Rattle.records.proofs.Promises.{entered_tags, entered_tag, entered_bit}
 use Rattle.coding.specs.Tags.{identifier_of, last, before, explicit_tags, own_tag, explicit}
 use Rattle.reader.specs.Codes.{own_either, either_at, coded}
@@ -37,12 +38,12 @@ use Rattle.reader.specs.Wraps.{identifiers, sent_as, AwaitsTag, behind_last, is_
 use Rattle.reader.proofs.Starts.{coded_one, coded_is, coded_parts, coded_other, either_entry, either_explicit}
 use Rattle.reader.proofs.Begun.{AllFine, Fit, fit, eqb_turn, code_below, parts_tag, code_parts}
 use Rattle.reader.proofs.Spans.{or_true}
-use Rattle.checker.proofs.Ready.{Ready}
+use Rattle.checker.proofs.Ready.{Ready, described_in}
 
 -- a record by its entry
-pub record_is : {b : List ℕ} {e : Entry} {r : Record} → Entered b e r → record_in b e ≡ r
+pub record_is : {b : List ℕ} {e : Descriptor} {r : Record} → Describes b e r → record_in b e ≡ r
 unfolding record_in
-record_is {b} {e} {r} x = let z : length r.tags - 0 ≡ length r.tags = omega arith in rw (entered_tags x, z, x.tags, x.body) refl
+record_is {b} {e} {r} x = let z : length r.tags - 0 ≡ length r.tags = omega arith in rw (entered_tags x.entered, z, x.entered.tags, x.entered.body) refl
 
 -- identifiers, one a tag
 bit_later : (a n : ℕ) → ltb (suc a + 1) (suc n) ≡ ltb (a + 1) n
@@ -240,24 +241,24 @@ own_first r F z n =
 
 -- of the record of an entry
 module _ {b index : List ℕ} (R : Ready b index) {w : ℕ} (I : IsRecord b index w) where
-  pub its_entry : Entered b (unpacked w) (table_in b I.0)
-  its_entry = rw I.2 (R.filled.entered I.0 I.1)
+  pub its_entry : Describes b (described w) (table_in b I.0)
+  its_entry = rw I.2 (described_in R I.0 I.1)
 
-  pub its_record : record_in b (unpacked w) ≡ table_in b I.0
+  pub its_record : record_in b (described w) ≡ table_in b I.0
   its_record = record_is its_entry
 
-  pub its_fit : Fit (record_in b (unpacked w))
+  pub its_fit : Fit (record_in b (described w))
   its_fit = rw its_record (fit b (table_in b) (count_in b) R.passes I.0)
 
   abbrev r : Record
-  r = record_in b (unpacked w)
+  r = record_in b (described w)
 
-  its_tags : tag_count (unpacked w) ≡ length (identifiers r)
-  its_tags = entered_tags its_entry ∙ ap (λ (x : Record). length x.tags) (sym its_record) ∙ sym (count_identifiers r its_fit)
+  its_tags : tag_count (entry_of (described w)) ≡ length (identifiers r)
+  its_tags = entered_tags its_entry.entered ∙ ap (λ (x : Record). length x.tags) (sym its_record) ∙ sym (count_identifiers r its_fit)
 
-  module _ (e : Entry) (ee : e ≡ unpacked w) (n : ℕ) (en : n ≡ tag_count e) (j : ℕ) (m : List ℕ) where
+  module _ (e : Descriptor) (ee : e ≡ described w) (n : ℕ) (en : n ≡ tag_count (entry_of e)) (j : ℕ) (m : List ℕ) where
     how_many : n ≡ length (identifiers r)
-    how_many = en ∙ ap tag_count ee ∙ its_tags
+    how_many = en ∙ ap (λ (x : Descriptor). tag_count (entry_of x)) ee ∙ its_tags
 
     pub awaits_none : n ≤ j → AwaitsTag r j m (Ok 0)
     awaits_none l = behind_last (omega (arith, how_many))
@@ -271,22 +272,22 @@ module _ {b index : List ℕ} (R : Ready b index) {w : ℕ} (I : IsRecord b inde
       awaits_unread c q = no_tag {c = c} within (rw (identifier_refused m y ey c q) refl)
 
       module _ (code end : ℕ) (q : y ≡ Ok (record { code = code; end = end })) (k : ℕ)
-          (ek : k ≡ code_by (get_or b (tag_place e j) 0) (ltb j e.explicit || not e.simple) (two b (tag_place e j + 1))) where
+          (ek : k ≡ code_by (get_or b (tag_place (entry_of e) j) 0) (ltb j e.explicit || not e.simple) (two b (tag_place (entry_of e) j + 1))) where
         abbrev Is : (a : List ℕ) × (read_identifier m ≡ got a (drop end m)) × (code_of a ≡ code) × (0 < end) × (end ≤ length m)
         Is = identifier_read m y ey (record { code = code; end = end }) q
 
         in_tags : j < length (table_in b I.0).tags
-        in_tags = omega (arith, en, ap tag_count ee, entered_tags its_entry)
+        in_tags = omega (arith, en, ap (λ (x : Descriptor). tag_count (entry_of x)) ee, entered_tags its_entry.entered)
 
         its_code : k ≡ code_of (get_or (identifiers r) j [])
         its_code =
             let t = table_in b I.0 in
             let F = fit b (table_in b) (count_in b) R.passes I.0 in
-            let g = entered_tag its_entry zeros j in_tags in
+            let g = entered_tag its_entry.entered zeros j in_tags in
             rw its_record
             (ek
-            ∙ ap (λ (x : Entry). code_by (get_or b (tag_place x j) 0) (ltb j x.explicit || not x.simple) (two b (tag_place x j + 1))) ee
-            ∙ ap (λ (x : Bool). code_by (get_or b (tag_place (unpacked w) j) 0) x (two b (tag_place (unpacked w) j + 1))) (entered_bit its_entry j in_tags)
+            ∙ ap (λ (x : Descriptor). code_by (get_or b (tag_place (entry_of x) j) 0) (ltb j x.explicit || not x.simple) (two b (tag_place (entry_of x) j + 1))) ee
+            ∙ ap (λ (x : Bool). code_by (get_or b (tag_place (entry_of (described w)) j) 0) x (two b (tag_place (entry_of (described w)) j + 1))) (entered_bit its_entry.entered j in_tags)
             ∙ ap (λ (x : Tag). code_by x.class (ltb (j + 1) (length t.tags) || constructed t.body) x.number) g
             ∙ sym (code_at t F j in_tags))
 
@@ -324,13 +325,13 @@ module _ {b index : List ℕ} (R : Ready b index) {w : ℕ} (I : IsRecord b inde
 
           pub awaits_explicit : (e.explicit ≡ j → ⊥) → AwaitsTag r j m (Err NotAwaited)
           awaits_explicit z =
-              exactly (rw its_record (either_explicit its_entry j (λ q. z (ap (λ (x : Entry). x.explicit) ee ∙ q))))
+              exactly (rw its_record (either_explicit its_entry j (λ q. z (ap (λ (x : Descriptor). x.explicit) ee ∙ q))))
 
           module _ (z : e.explicit ≡ j) (g : Bool) (eg : g ≡ (eqb (octet_of e.kind) 3 || eqb (octet_of e.kind) 4)) where
             its_either : either_at r j ≡ g
             its_either =
                 rw its_record
-                (either_entry its_entry j g (eg ∙ ap (λ (x : Entry). eqb (octet_of x.kind) 3 || eqb (octet_of x.kind) 4) ee) (ap (λ (x : Entry). x.explicit) (sym ee) ∙ z))
+                (either_entry its_entry j g (eg ∙ ap (λ (x : Descriptor). eqb (octet_of x.kind) 3 || eqb (octet_of x.kind) 4) ee) (ap (λ (x : Descriptor). x.explicit) (sym ee) ∙ z))
 
             pub awaits_string : code ≡ k + 32 → g ≡ true → AwaitsTag r j m (Ok end)
             awaits_string q y = is_awaited (coded_parts (either_at r j) k code (its_either ∙ y) (sym q))

@@ -27,8 +27,8 @@ use Rattle.table.specs.Syntax.{Simple, Body, Plain}
 use Rattle.table.specs.Syntax.{Record, is_choice, constructed}
 use Rattle.table.specs.Reading.{table_in}
 use Rattle.kinds.specs.Kinds.{octet_of}
-use Rattle.records.specs.Entries.{unpacked}
-use Rattle.records.specs.declared.entry.Entry.{Entry}
+use Rattle.records.specs.Descriptors.{described}
+use Rattle.records.specs.declared.descriptor.Descriptor.{Descriptor}
 use Rattle.coding.specs.Tags.{own_tag, explicit}
 use Rattle.coding.specs.Content.{segmented}
 use Rattle.coding.specs.Value.{Value}
@@ -89,19 +89,19 @@ module _ {b index : List ℕ} (R : Ready b index) {w : ℕ} (I : IsRecord b inde
   abbrev r : Record
   r = record_of b w
 
-  module _ (e : Entry) (ee : e ≡ unpacked w) where
-    pub its_notes : (notes : List ℕ) → take e.explicit notes ≡ take (unpacked w).explicit notes
-    its_notes notes = ap (λ (x : Entry). take x.explicit notes) ee
+  module _ (e : Descriptor) (ee : e ≡ described w) where
+    pub its_notes : (notes : List ℕ) → take e.explicit notes ≡ take (described w).explicit notes
+    its_notes notes = ap (λ (x : Descriptor). take x.explicit notes) ee
 
-    pub no_notes : e.explicit ≤ 0 → (notes : List ℕ) → take (unpacked w).explicit notes ≡ []
+    pub no_notes : e.explicit ≤ 0 → (notes : List ℕ) → take (described w).explicit notes ≡ []
     no_notes l notes = let z : e.explicit ≡ 0 = omega arith in sym (its_notes notes) ∙ ap (λ (i : ℕ). take i notes) z
 
     -- without tags
-    pub under_bare : (m : List ℕ) (first from : ℕ) → e.explicit ≤ 0 → Headed m first from (either r) (unpacked w).code → (notes : List ℕ)
-        → Under b r m first (take (unpacked w).explicit notes) first from (length m)
+    pub under_bare : (m : List ℕ) (first from : ℕ) → e.explicit ≤ 0 → Headed m first from (either r) (described w).code → (notes : List ℕ)
+        → Under b r m first (take (described w).explicit notes) first from (length m)
     unfolding Around closing read_record read_wrapped
     under_bare m first from l h notes =
-        let z : length (explicit r) ≡ 0 = omega (arith, ap (λ (x : Entry). x.explicit) ee, its_count R I) in
+        let z : length (explicit r) ≡ 0 = omega (arith, ap (λ (x : Descriptor). x.explicit) ee, its_count R I) in
         rw (no_notes l notes)
         (record {
           some = omega (arith, h.further, h.low);
@@ -127,13 +127,13 @@ pub record Item (b index : List ℕ) (w : ℕ) (m : List ℕ) (first level : ℕ
   pub known : IsRecord b index w
   pub all_octets : Octets m
   pub short : length m ≤ 8192
-  pub entry : Entry
-  pub entered : entry ≡ unpacked w
+  pub entry : Descriptor
+  pub entered : entry ≡ described w
   pub notes : List ℕ
   pub at : ℕ
   pub from : ℕ
   pub end : ℕ
-  pub under : Under b (record_of b w) m first (take (unpacked w).explicit notes) at from end
+  pub under : Under b (record_of b w) m first (take (described w).explicit notes) at from end
 
 module _ {b index : List ℕ} {w : ℕ} {m : List ℕ} {first level : ℕ} (X : Item b index w m first level) where
   abbrev pub Rec : Record
@@ -251,7 +251,7 @@ module _ {b index : List ℕ} {w : ℕ} {m : List ℕ} {first level : ℕ} (Y : 
   abbrev pub X : Item b index w m first level
   X = Y.item
 
-  abbrev pub U : Under b (record_of b w) m first (take (unpacked w).explicit X.notes) X.at X.from X.end
+  abbrev pub U : Under b (record_of b w) m first (take (described w).explicit X.notes) X.at X.from X.end
   U = X.under
 
   abbrev pub W : Within (record_of b w) (take X.end m) X.at X.end Y.start Y.stop Y.indefinite
@@ -353,8 +353,8 @@ module _ {b index : List ℕ} {w : ℕ} {m : List ℕ} {first level : ℕ} (Y : 
     its_held : Held ≡ HeldIn (mode Y.indefinite) C
     its_held = ap (λ (h : Holder). read_held (table_in b) (read_value (table_in b) level) h (mode Y.indefinite) C) (its_holder X.ready X.known)
 
-    pub items_known : Known b index w × ((unpacked w).simple ≡ false)
-    items_known = let (t, h, q) = X.known in (of_record t h q, sym (ap (λ (e : Entry). e.simple) X.entered) ∙ plain)
+    pub items_known : Known b index w × ((described w).simple ≡ false)
+    items_known = let (t, h, q) = X.known in (of_record t h q, sym (ap (λ (e : Descriptor). e.simple) X.entered) ∙ plain)
 
     pub items_some : is_single (manner (held b w)) ≡ true → 0 < length C
     items_some q =

@@ -31,8 +31,9 @@ use Rattle.table.specs.Reading.{numbers_at, body_at}
 use Rattle.kinds.specs.Kinds.{octet_of}
 use Rattle.kinds.specs.declared.Kind.{Kind}
 use Rattle.kinds.specs.declared.Kind.TheVariants.{Boolean, Integer, BitString, OctetString, Null, Enumerated, UtcTime, GeneralizedTime}
-use Rattle.records.specs.Entries.{Entered, lists_number}
-use Rattle.records.specs.declared.entry.Entry.{Entry}
+use Rattle.records.specs.Entries.{lists_number}
+use Rattle.records.specs.Descriptors.{Describes}
+use Rattle.records.specs.declared.descriptor.Descriptor.{Descriptor}
 use Rattle.records.proofs.Promises.{entered_enumerated}
 use Rattle.coding.specs.Value.{Leaf, boolean, integer, bits, string, enumerated, time, leaf_octets}
 use Rattle.coding.specs.Content.{listed, segmented}
@@ -140,16 +141,16 @@ listed_is ns (pos k) = refl
 listed_is ns (negsuc k) = refl
 
 -- the numbers of an ENUMERATED are all there
-pub lists_all : {b : List ℕ} {e : Entry} {r : Record} → Entered b e r → e.kind ≡ Enumerated → (c : List ℕ) → (minimal c && leb (length c) 8) ≡ true
+pub lists_all : {b : List ℕ} {e : Descriptor} {r : Record} → Describes b e r → e.kind ≡ Enumerated → (c : List ℕ) → (minimal c && leb (length c) 8) ≡ true
     → (z : ℤ) → z ≡ integer_in c → {s : Bool}
     → s ≡ (leb (e.own + 1 + 2 * get_or b e.own 0) (length b) && lists_number (numbers_at b (e.own + 1) (get_or b e.own 0)) z)
     → s ≡ is_listed (numbers_at b (e.own + 1) (get_or b e.own 0)) (integer_of c)
 unfolding body_at if
 lists_all {b} {e} {r} x q c h z i es =
     let ns = numbers_at b (e.own + 1) (get_or b e.own 0) in
-    let y : r.body ≡ Plain (Numbers ns) = sym x.body ∙ rw q refl in
+    let y : r.body ≡ Plain (Numbers ns) = sym x.entered.body ∙ rw q refl in
     let j : z ≡ integer_of c = i ∙ rw (both (minimal c) (leb (length c) 8) h).1 refl in
-    es ∙ rw ((entered_enumerated x ns y).within, ← j) (listed_is ns z)
+    es ∙ rw ((entered_enumerated x.entered ns y).within, ← j) (listed_is ns z)
 
 -- what is not in segments has the size of its contents, and a string in segments has none by itself
 pub by_whole : (y : Body) (lead : ℕ) (c : List ℕ) → is_in_segments lead ≡ false → size_by y lead c ≡ leaf_weight y c

@@ -7,7 +7,7 @@ use Rattle.x690.specs.declared.ReadingCause.{ReadingCause}
 use Rattle.octets.specs.Answer.{Answer, got}
 use Rattle.ber.specs.Told.{mode}
 use Rattle.table.specs.Reading.{table_in, count_in}
-use Rattle.records.specs.Entries.{unpacked}
+use Rattle.records.specs.Descriptors.{described}
 use Rattle.coding.specs.Value.{Value, octets}
 use Rattle.coding.specs.Reading.{read_value}
 use Rattle.reader.specs.Codes.{first_of, untagged, either}
@@ -40,12 +40,12 @@ held_in b h indefinite m = read_held (table_in b) (read_value (table_in b) 24) h
 
 -- a value of an entry
 abbrev pub value_in : List ℕ → ℕ → List ℕ → Answer ReadingCause Value
-value_in b w s = read_record (table_in b) 24 (record_in b (unpacked w)) s
+value_in b w s = read_record (table_in b) 24 (record_in b (described w)) s
 
 -- what the placing of the items in w requires
 pub record ToPlace (b index : List ℕ) (w : ℕ) (m : List ℕ) (indefinite : Bool) (buf : List ℕ) (to : ℕ) : Type 0 where
   pub known : Known b index w
-  pub holds : (unpacked w).simple ≡ false
+  pub holds : (described w).simple ≡ false
   pub short : length m ≤ 8192
   pub fits : Fits (held_in b (held b w) indefinite m) to buf
 
@@ -56,7 +56,7 @@ pub record ToPlaceValue (b index : List ℕ) (w : ℕ) (m : List ℕ) (at from :
   pub entry : w ≡ get_or index type 0
   pub tagged : first_of (table_in b type) ≡ untagged → ⊥
   pub short : length m ≤ 8192
-  pub headed : Headed m at from (either (record_in b (unpacked w))) (unpacked w).code
+  pub headed : Headed m at from (either (record_in b (described w))) (described w).code
   pub fits : Fits (value_in b w (drop at m)) to buf
 
 -- the first member from the j-th on that came; n if none did

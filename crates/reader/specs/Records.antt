@@ -7,8 +7,9 @@ use Rattle.table.specs.Syntax.{Record, Table}
 use Rattle.table.specs.Reading.{tags_at, body_at, table_in, count_in}
 use Rattle.kinds.specs.Kinds.{octet_of}
 use Rattle.kinds.specs.declared.Kind.TheVariants.{Message}
-use Rattle.records.specs.Entries.{unpacked, tag_count, tag_place, Entered}
-use Rattle.records.specs.declared.entry.Entry.{Entry}
+use Rattle.records.specs.Entries.{tag_count, tag_place}
+use Rattle.records.specs.Descriptors.{entry_of, described, Describes}
+use Rattle.records.specs.declared.descriptor.Descriptor.{Descriptor}
 use Rattle.coding.specs.Value.{Value}
 use Rattle.coding.specs.Tags.{own_tag, explicit}
 use Rattle.coding.specs.Reading.{read_wrapped, read_kind, read_value}
@@ -18,17 +19,17 @@ use Rattle.reader.specs.Ways.{Leads}
 use Rattle.reader.specs.declared.search.Under.{Under}
 
 -- the record of an entry
-unfoldable pub record_in : List ℕ → Entry → Record
-record_in b e = record { tags = tags_at b (tag_place e 0) (tag_count e); body = body_at b (octet_of e.kind) e.own }
+unfoldable pub record_in : List ℕ → Descriptor → Record
+record_in b e = record { tags = tags_at b (tag_place (entry_of e) 0) (tag_count (entry_of e)); body = body_at b (octet_of e.kind) e.own }
 
 -- what its items stand in; 51 is the kind of a message
-unfoldable pub holder_in : List ℕ → Entry → Holder
+unfoldable pub holder_in : List ℕ → Descriptor → Holder
 holder_in b e = if (eqb (octet_of e.kind) 51) (message e.own) λ _. inside (body_at b (octet_of e.kind) e.own)
 
 -- an entry of the index, or that of a message
 pub data Known (b index : List ℕ) (w : ℕ) : Type 0 where
   of_record : (t : ℕ) → t < count_in b → w ≡ get_or index t 0 → Known b index w
-  of_message : (t : ℕ) → t < count_in b → unpacked w ≡ record { code = 0; own = t; kind = Message; explicit = 0; simple = false } → Known b index w
+  of_message : (t : ℕ) → t < count_in b → described w ≡ record { code = 0; own = t; kind = Message; explicit = 0; simple = false } → Known b index w
 
 -- an entry of the index
 abbrev pub IsRecord : List ℕ → List ℕ → ℕ → Type 0
@@ -36,7 +37,7 @@ IsRecord b index w = (t : ℕ) × (t < count_in b) × (w ≡ get_or index t 0)
 
 -- the code begins the record of the entry w itself
 abbrev pub Begins : ℕ → ℕ → Bool → Type 0
-Begins w code r = (b : List ℕ) (x : Record) → Entered b (unpacked w) x → r ≡ starts_with x code
+Begins w code r = (b : List ℕ) (x : Record) → Describes b (described w) x → r ≡ starts_with x code
 
 -- a value of a record, where the values in it have n levels
 unfoldable pub read_record : Table → ℕ → Record → List ℕ → Answer ReadingCause Value

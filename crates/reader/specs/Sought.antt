@@ -9,7 +9,7 @@ use Rattle.ber.specs.Codes.{code_of}
 use Rattle.x690.specs.Reading.{read_identifier}
 use Rattle.table.specs.Syntax.{Member}
 use Rattle.table.specs.Reading.{table_in}
-use Rattle.records.specs.Entries.{unpacked}
+use Rattle.records.specs.Descriptors.{described}
 use Rattle.coding.specs.Reading.{not_awaited}
 use Rattle.reader.specs.Codes.{starts_with, search_in, hit, under}
 use Rattle.reader.specs.Items.{Holder, inside, message, each_once, manner, parts_of, Placed, awaits, remains, is_single, first, next}
@@ -18,7 +18,7 @@ use Rattle.reader.specs.declared.search.Choice.{Choice}
 
 -- what the entry w stands for, if it is one of a record that is not simple, or of a message
 abbrev pub held : List ℕ → ℕ → Holder
-held b w = holder_in b (unpacked w)
+held b w = holder_in b (described w)
 
 -- what all who look among the parts of w rely on; but for a SET nothing is noted
 pub record Sound (b index : List ℕ) (w : ℕ) (came : List ℕ) : Type 0 where

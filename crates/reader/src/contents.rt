@@ -3,7 +3,7 @@ ghost use Rattle.std.specs.Prelude.{◌≡◌, ◌<◌, ◌≤◌, ◌+◌, ◌-
 ghost use Rattle.table.specs.Syntax.{Record};
 ghost use Rattle.table.specs.Reading.{body_at};
 ghost use Rattle.kinds.specs.Kinds.{octet_of};
-ghost use Rattle.records.specs.Entries.{Entered};
+ghost use Rattle.records.specs.Descriptors.{Describes};
 ghost use Rattle.reader.specs.Weights.{size_by};
 ghost use Rattle.std.proofs.lemmas.List.Edits.{sets};
 ghost use Rattle.octets.specs.Numbers.{octets_of, unless_zero};
@@ -22,14 +22,14 @@ use clock::own;
 use dates::TimeKind;
 use digits::time;
 use kinds::Kind;
-use records::entry::{Entry, lists};
+use records::descriptor::{Descriptor, lists};
 use simple::{bit_string, integer};
 use x690::{ReadingCause, Unread};
 
 // How many octets the value of contents of a simple record has, in an item that begins with the octet `lead`; none if they are wrong for it, or
 // come in segments.
-pub fn contents_size(table: &[u8], e: Entry, lead: u8, c: &[u8]) -> Option<usize>
-    requires { (r : Record) × Entered table.now e r × (length c.now ≤ 8192) }
+pub fn contents_size(table: &[u8], e: Descriptor, lead: u8, c: &[u8]) -> Option<usize>
+    requires { (r : Record) × Describes table.now e r × (length c.now ≤ 8192) }
     ensures { let n = size_by (body_at table.now (octet_of e.kind) e.own) lead c.now in (result ≡ unless_zero n) × (n < 16386) }
 {
     let n = c.len();
@@ -70,14 +70,14 @@ fn string_size(kind: Kind, n: usize) -> usize
 // where the item begins, and `behind` octets after c.
 pub fn judge_segments(
     table: &[u8],
-    e: Entry,
+    e: Descriptor,
     lead: u8,
     c: &[u8],
     indefinite: bool,
     left: usize,
     behind: usize,
 ) -> Result<Judged, Unread>
-    requires { (r : Record) × Entered table.now e r
+    requires { (r : Record) × Describes table.now e r
         × (is_in_segments lead ≡ true → (octet_of e.kind ≡ 3) ⊎ (octet_of e.kind ≡ 4))
         × (length c.now ≤ 8192)
         × (behind ≤ 8192)

@@ -7,7 +7,7 @@ ghost use Rattle.ber.specs.Told.{end_of, told_length, mode};
 ghost use Rattle.table.specs.Syntax.{Record};
 ghost use Rattle.table.specs.Reading.{body_at, table_in, count_in};
 ghost use Rattle.kinds.specs.Kinds.{octet_of};
-ghost use Rattle.records.specs.Entries.{unpacked, Entered};
+ghost use Rattle.records.specs.Descriptors.{described, Describes};
 ghost use Rattle.coding.specs.Reading.{read_value, read_message};
 ghost use Rattle.reader.specs.Answers.{told, size};
 ghost use Rattle.reader.specs.Items.{manner, since, read_held};
@@ -28,7 +28,8 @@ use ber::{ending, length};
 use checker::passed::Passed;
 use coding::LEVELS;
 use kinds::Kind;
-use records::entry::{Entry, parts, unpack, whole};
+use records::descriptor::{Descriptor, describe, parts};
+use records::entry::whole;
 use x690::{ReadingCause, Unread};
 
 // Where other octets begin, if the contents m of w are over at a place; none if an item follows. 00 00 closes them if `indefinite`. Awaited
@@ -42,10 +43,10 @@ fn next(
     j: usize,
     came: &[u16; 16],
 ) -> Result<Option<usize>, ReadingCause>
-    requires { Sound table.now.octets.now table.now.index.now w came.now × ((unpacked w).simple ≡ false) }
+    requires { Sound table.now.octets.now table.now.index.now w came.now × ((described w).simple ≡ false) }
     ensures { let h = held table.now.octets.now w in result ≡ standing h (since (manner h) j) came.now (end_of indefinite (length m.now) (drop at m.now)) }
 {
-    let e = unpack(w);
+    let e = describe(w);
     if e.kind.holds_one() {
         return Ok(None);
     }
@@ -81,14 +82,14 @@ fn extent(kind: Kind, m: &[u8], x: Inner) -> Result<Extent, ReadingCause>
 // `behind` octets after c.
 fn judge_contents(
     table: &[u8],
-    e: Entry,
+    e: Descriptor,
     lead: u8,
     c: &[u8],
     indefinite: bool,
     left: usize,
     behind: usize,
 ) -> Result<Judged, Unread>
-    requires { (r : Record) × Entered table.now e r
+    requires { (r : Record) × Describes table.now e r
         × (is_in_segments lead ≡ true → (octet_of e.kind ≡ 3) ⊎ (octet_of e.kind ≡ 4))
         × (length c.now ≤ 8192)
         × (behind ≤ 8192)
@@ -118,9 +119,9 @@ fn judge_value(
 ) -> Result<Judged, Unread>
     requires { ToJudgeValue table.now.octets.now table.now.index.now w m.now at from level }
     ensures { let b = table.now.octets.now in
-        result ≡ told m.now size (read_record (table_in b) level (record_in b (unpacked w)) (drop at m.now)) }
+        result ≡ told m.now size (read_record (table_in b) level (record_in b (described w)) (drop at m.now)) }
 {
-    let e = unpack(w);
+    let e = describe(w);
     let mut notes = [0u16; 4];
     let mut x = Inner {
         at,
@@ -177,7 +178,7 @@ fn judge_members(
     ensures { let b = table.now.octets.now in
         result ≡ told m.now size (read_held (table_in b) (read_value (table_in b) level) (held b w) (mode indefinite) m.now) }
 {
-    let e = unpack(w);
+    let e = describe(w);
     let s = parts(table.octets, e);
     let mut came = [0u16; 16];
     let mut total = node_size(e.kind, s.count);

@@ -18,7 +18,8 @@ use crate::tags::{Inner, close, open};
 use ber::{ending, length};
 use checker::passed::Passed;
 use kinds::Kind;
-use records::entry::{parts, unpack, whole};
+use records::descriptor::{describe, parts};
+use records::entry::whole;
 
 // The value of w at a place of m: explicit tags, length, and contents, simple ones or items. Its first identifier ends at `from`.
 #[cycle(place_members_place_value)]
@@ -35,7 +36,7 @@ fn place_value(
     requires { ToPlaceValue table.now.octets.now table.now.index.now w m.now at from buf.old to }
     ensures { IsPlaced (value_in table.now.octets.now w (drop at m.now)) m.now to buf.old buf.new result }
 {
-    let e = unpack(w);
+    let e = describe(w);
     let mut notes = [0u16; 4];
     let mut inner = Inner {
         at,
@@ -102,7 +103,7 @@ fn place_members(
     // Taken out once: the loop then has them in registers.
     let octets = table.octets;
     let index = table.index;
-    let e = unpack(w);
+    let e = describe(w);
     let s = parts(octets, e);
     let none = [0u16; 16];
     let mut began = [0u16; 16];

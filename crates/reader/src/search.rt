@@ -3,7 +3,8 @@
 ghost use Rattle.std.specs.Prelude.{◌≡◌, List, ℕ, ◌≤◌, ◌<◌, length, drop, Some, Ok};
 ghost use Rattle.table.specs.Reading.{table_in, count_in};
 ghost use Rattle.kinds.specs.Kinds.{octet_of};
-ghost use Rattle.records.specs.Entries.{unpacked, span_of};
+ghost use Rattle.records.specs.Entries.{span_of};
+ghost use Rattle.records.specs.Descriptors.{described};
 ghost use Rattle.reader.specs.Codes.{untagged, first_of};
 ghost use Rattle.reader.specs.Records.{Begins, Finds};
 ghost use Rattle.octets.specs.Numbers.{if_below};
@@ -15,13 +16,14 @@ use ber::identifier;
 use checker::passed::Passed;
 use kinds::Kind;
 use octets::octet;
-use records::entry::{Span, UNTAGGED, alternatives, first, optional, part, parts, unpack};
+use records::descriptor::{alternatives, describe, parts};
+use records::entry::{Span, UNTAGGED, first, optional, part};
 use x690::ReadingCause;
 
 // Whether an item with the code begins the record of w itself. A string that stands under no explicit tag may be constructed too: then it is
 // in segments.
 pub fn begins(w: u64, code: u32) -> bool
-    requires { (unpacked w).code ≤ untagged }
+    requires { (described w).code ≤ untagged }
     ensures { Begins w code result }
 {
     let found = first(w);
@@ -31,7 +33,7 @@ pub fn begins(w: u64, code: u32) -> bool
     if found + 32 != code {
         return false;
     }
-    let e = unpack(w);
+    let e = describe(w);
     if e.explicit != 0 {
         return false;
     }
@@ -57,7 +59,7 @@ fn among(table: &Passed, t: usize, code: u32, way: &mut [u16; 128]) -> Option<Un
     let mut choice = t;
     let mut j: usize = 0;
     loop {
-        let s = alternatives(table.octets, unpack(table.index[choice]));
+        let s = alternatives(table.octets, describe(table.index[choice]));
         if j < s.count {
             let a = octet(table.octets, s.first + j);
             way[depth] = (16 * choice + j) as u16;
@@ -118,7 +120,7 @@ fn direct(table: &Passed, w: u64, i: usize, came: &[u16; 16], code: u32) -> Opti
     requires { Sound table.now.octets.now table.now.index.now w came.now }
     ensures { let h = held table.now.octets.now w in result ≡ if_below (tabled_count h) (Sought·direct table.now.octets.now h i came.now code) }
 {
-    let e = unpack(w);
+    let e = describe(w);
     let s = parts(table.octets, e);
     for k in i..s.count {
         let p = s.first + s.step * k;
@@ -148,7 +150,7 @@ fn unawaited(
     requires { Sound table.now.octets.now table.now.index.now w came.now × (since (manner (held table.now.octets.now w)) i ≡ i) }
     ensures { result ≡ unfit_cause (held table.now.octets.now w) i came.now cause }
 {
-    if unpack(w).kind.has_members() {
+    if describe(w).kind.has_members() {
         if !lacks(table, w, i, came, true) {
             return ReadingCause::Trailing;
         }
@@ -169,7 +171,7 @@ fn indirect(
     requires { Sound table.now.octets.now table.now.index.now w came.now × (since (manner (held table.now.octets.now w)) i ≡ i) × (code < untagged) }
     ensures { Indirect table.now.octets.now (held table.now.octets.now w) i came.now code from way.new result }
 {
-    let e = unpack(w);
+    let e = describe(w);
     let s = parts(table.octets, e);
     let whole = e.kind == Kind::Message;
     let n = if whole { 1 } else { s.count };
@@ -211,7 +213,7 @@ pub fn search(
     requires { Sound table.now.octets.now table.now.index.now w came.now }
     ensures { let h = held table.now.octets.now w in Sought table.now.octets.now h (since (manner h) j) came.now m.now way.new result }
 {
-    let e = unpack(w);
+    let e = describe(w);
     let s = parts(table.octets, e);
     let i = if e.kind == Kind::Sequence { j } else { 0 };
     let x = match identifier::read(m) {
@@ -242,7 +244,7 @@ pub fn in_turn(
     came: &[u16; 16],
 ) -> Option<Choice>
     requires { Sound table.now.octets.now table.now.index.now w came.now
-        × (let e = unpacked w in s ≡ span_of table.now.octets.now (octet_of e.kind) e.own)
+        × (let e = described w in s ≡ span_of table.now.octets.now (octet_of e.kind) e.own)
         × (at < length m.now) }
     ensures { (x : Choice) → result ≡ Some x
         → (x.place ≡ j)

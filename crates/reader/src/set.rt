@@ -4,7 +4,7 @@ ghost use Rattle.std.specs.Prelude.{◌≡◌, List, ◌≤◌, length, unwrap_o
 ghost use Rattle.table.specs.Syntax.{Member, Set};
 ghost use Rattle.table.specs.Reading.{table_in};
 ghost use Rattle.kinds.specs.Kinds.{octet_of};
-ghost use Rattle.records.specs.Entries.{unpacked};
+ghost use Rattle.records.specs.Descriptors.{described};
 ghost use Rattle.reader.specs.Items.{inside, blank};
 ghost use Rattle.reader.specs.Records.{Known};
 ghost use Rattle.reader.specs.Sought.{held};
@@ -44,7 +44,7 @@ pub fn locate(
     way: &mut [u16; 128],
 ) -> usize
     requires { Known table.now.octets.now table.now.index.now w
-        × (octet_of (unpacked w).kind ≡ 17)
+        × (octet_of (described w).kind ≡ 17)
         × (length m.now ≤ 8192)
         × (began.old ≡ blank) }
     ensures { ((ms : List Member) → held table.now.octets.now w ≡ inside (Set ms)

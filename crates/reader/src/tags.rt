@@ -1,7 +1,7 @@
 // Explicit tags (X.690, 8.14), of which a record has at most four: they are opened from the outermost in, and closed from the innermost out.
 ghost use Rattle.std.specs.Prelude.{◌≡◌, ℕ, ◌<◌, ◌≤◌, length, take, drop};
 ghost use Rattle.octets.specs.Answer.{got};
-ghost use Rattle.records.specs.Entries.{unpacked};
+ghost use Rattle.records.specs.Descriptors.{described};
 ghost use Rattle.reader.specs.Answers.{told};
 ghost use Rattle.reader.specs.Codes.{either};
 ghost use Rattle.reader.specs.Records.{record_in, IsRecord};
@@ -10,7 +10,7 @@ ghost use Rattle.reader.specs.Wraps.{note_of, Headed, AwaitsTag, EntersTag, Open
 use crate::answer::Judged;
 use ber::{ending, identifier, length};
 use checker::passed::Passed;
-use records::entry::{tag_code, tag_count, unpack};
+use records::descriptor::{describe, tag_code, tag_count};
 use x690::{ReadingCause, Unread};
 
 // The item under all tags: where it begins, where its identifier ends, and where what it stands in ends.
@@ -36,9 +36,9 @@ fn note(end: usize, indefinite: bool) -> u16
 // Where the identifier of the j-th tag of w ends, which m must begin with; a string's own may be constructed too. 0 behind the last tag, as of a CHOICE.
 fn awaited(table: &Passed, w: u64, j: usize, m: &[u8]) -> Result<usize, ReadingCause>
     requires { IsRecord table.now.octets.now table.now.index.now w }
-    ensures { AwaitsTag (record_in table.now.octets.now (unpacked w)) j m.now result }
+    ensures { AwaitsTag (record_in table.now.octets.now (described w)) j m.now result }
 {
-    let e = unpack(w);
+    let e = describe(w);
     if tag_count(e) <= j {
         return Ok(0);
     }
@@ -66,7 +66,7 @@ fn enter(
     indefinite: bool,
 ) -> Result<usize, ReadingCause>
     requires { IsRecord table.now.octets.now table.now.index.now w }
-    ensures { EntersTag (record_in table.now.octets.now (unpacked w)) j m.now indefinite result }
+    ensures { EntersTag (record_in table.now.octets.now (described w)) j m.now indefinite result }
 {
     match ending::read(m, 0, indefinite)? {
         None => awaited(table, w, j, m),
@@ -84,12 +84,12 @@ pub fn open(
     notes: &mut [u16; 4],
 ) -> Result<Inner, Unread>
     requires { IsRecord table.now.octets.now table.now.index.now w
-        × (0 < (unpacked w).explicit)
-        × Headed m.now at from (either (record_in table.now.octets.now (unpacked w))) (unpacked w).code
+        × (0 < (described w).explicit)
+        × Headed m.now at from (either (record_in table.now.octets.now (described w))) (described w).code
         × (length m.now ≤ 8192) }
-    ensures { Opens table.now.octets.now (record_in table.now.octets.now (unpacked w)) m.now at (take (unpacked w).explicit notes.new) result }
+    ensures { Opens table.now.octets.now (record_in table.now.octets.now (described w)) m.now at (take (described w).explicit notes.new) result }
 {
-    let e = unpack(w);
+    let e = describe(w);
     let count = e.explicit as usize;
     let mut at = at;
     let mut end = m.len();

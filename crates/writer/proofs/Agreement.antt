@@ -18,7 +18,7 @@ use Rattle.table.specs.Reading.{numbers_at, members_at, every_at, body_at}
 use Rattle.table.specs.Fields.{constructed_of}
 use Rattle.kinds.specs.Kinds.{octet_of}
 use Rattle.records.specs.Entries.{span_of, counted, lists_number}
-use Rattle.records.specs.declared.entry.Entry.{Entry}
+use Rattle.records.specs.declared.descriptor.Descriptor.{Descriptor}
 use Rattle.records.specs.declared.entry.Span.{Span}
 use Rattle.records.proofs.Promises.{entered_enumerated}
 use Rattle.coding.specs.Form.{alternatives}
@@ -183,7 +183,7 @@ module _ (b v : List ℕ) (own k p : ℕ) where
   number_there f h = (fixed_is v (p + 2) (rw f at h)).1
 
 -- a number that is listed
-module _ (b : List ℕ) (e : Entry) (K : Known b e) (v : List ℕ) (p : ℕ) (f : octet_of e.kind ≡ 10) (n : ℕ) (en : n ≡ two v p) (z : ℤ) (ez : z ≡ pos n) where
+module _ (b : List ℕ) (e : Descriptor) (K : Known b e) (v : List ℕ) (p : ℕ) (f : octet_of e.kind ≡ 10) (n : ℕ) (en : n ≡ two v p) (z : ℤ) (ez : z ≡ pos n) where
   numbers_of : (record_in b e).body ≡ Plain (Enumerated (numbers_at b (e.own + 1) (get_or b e.own 0)))
   unfolding body_at
   numbers_of = rw f refl

@@ -18,8 +18,8 @@ use Rattle.table.specs.Syntax.{Table}
 use Rattle.table.specs.Fields.{constructed_of}
 use Rattle.table.specs.Reading.{table_in, count_in}
 use Rattle.kinds.specs.Kinds.{octet_of}
-use Rattle.records.specs.Entries.{unpacked}
-use Rattle.records.specs.declared.entry.Entry.{Entry}
+use Rattle.records.specs.Descriptors.{described}
+use Rattle.records.specs.declared.descriptor.Descriptor.{Descriptor}
 use Rattle.checker.specs.declared.passed.Passed.{Passed}
 use Rattle.coding.specs.Judging.{agrees, judge_value}
 use Rattle.writer.specs.Nodes.{own_end, end_at, node_of, node_at, IsMarked}
@@ -60,11 +60,11 @@ pub record Node (b index v : List ℕ) (t at : ℕ) : Type 0 where
   pub little : length v ≤ 16384
   pub there : t < count_in b
   pub marked : IsMarked v at
-  pub awaited : octet_of (unpacked (get_or index t 0)).kind ≡ get_or v (at + 2) 0
+  pub awaited : octet_of (described (get_or index t 0)).kind ≡ get_or v (at + 2) 0
   pub constructed : constructed_of (get_or v (at + 2) 0) ≡ true
 
 pub at_node : (x : Passed) {v : List ℕ} {t at : ℕ} → length v ≤ 16384 → t < count_in x.octets.now → IsMarked v at
-    → octet_of (unpacked (get_or x.index.now t 0)).kind ≡ get_or v (at + 2) 0 → constructed_of (get_or v (at + 2) 0) ≡ true
+    → octet_of (described (get_or x.index.now t 0)).kind ≡ get_or v (at + 2) 0 → constructed_of (get_or v (at + 2) 0) ≡ true
     → Node x.octets.now x.index.now v t at
 at_node x l h m o k = record { octets = x.small; ready = ready_by x; little = l; there = h; marked = m; awaited = o; constructed = k }
 
@@ -72,8 +72,8 @@ module _ {b index v : List ℕ} {t at : ℕ} (N : Node b index v t at) (n : ℕ)
   abbrev T : Table
   T = table_in b
 
-  abbrev E : Entry
-  E = unpacked (get_or index t 0)
+  abbrev E : Descriptor
+  E = described (get_or index t 0)
 
   within : at ≤ length v
   within = let l = N.marked.0 in omega arith

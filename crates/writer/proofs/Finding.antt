@@ -20,7 +20,7 @@ use Rattle.table.specs.Passes.{Passes}
 use Rattle.table.specs.Fields.{constructed_of}
 use Rattle.kinds.specs.Kinds.{octet_of}
 use Rattle.records.specs.Entries.{span_of, counted}
-use Rattle.records.specs.declared.entry.Entry.{Entry}
+use Rattle.records.specs.declared.descriptor.Descriptor.{Descriptor}
 use Rattle.records.specs.declared.entry.Span.{Span}
 use Rattle.records.proofs.Promises.{entered_kind, entered_span, part_inside}
 use Rattle.coding.specs.Form.{element, alternatives}
@@ -42,7 +42,7 @@ every_get b p (suc n) zero h = let e : p + 1 * 0 ≡ p = omega arith in rw e ref
 every_get b p (suc n) (suc i) h = let e : p + 1 * suc i ≡ p + 1 + 1 * i = omega arith in rw e (every_get b (p + 1) n i (omega arith))
 
 -- an entry before a node of its kind that is shaped and agrees
-module _ (b : List ℕ) (o : Octets b) (e : Entry) (v : List ℕ) (p : ℕ) (shaped : 0 < own_end (octet_of e.kind) v p) (ag : agrees (record_in b e).body (node_of (octet_of e.kind)
+module _ (b : List ℕ) (o : Octets b) (e : Descriptor) (v : List ℕ) (p : ℕ) (shaped : 0 < own_end (octet_of e.kind) v p) (ag : agrees (record_in b e).body (node_of (octet_of e.kind)
     v p) ≡ true) where
   abbrev Row : List ℕ
   Row = row_of (record_in b e).body (node_of (octet_of e.kind) v p)
@@ -203,7 +203,7 @@ every_in step b p (suc n) zero h = let e : p + step * 0 ≡ p = omega arith in f
 every_in step b p (suc n) (suc j) h = let e : p + step * suc j ≡ p + step + step * j = simp mul-suc (omega arith) in rw e (later (every_in step b (p + step) n
     j (omega arith)))
 
-below_part : (b : List ℕ) (e : Entry) (v : List ℕ) (p i : ℕ) → (octet_of e.kind ≡ 51 → ⊥) → below_at b e v p i < 256
+below_part : (b : List ℕ) (e : Descriptor) (v : List ℕ) (p i : ℕ) → (octet_of e.kind ≡ 51 → ⊥) → below_at b e v p i < 256
     → get_or b (place_of (parts_of b e) (part_of e v p i)) 0 ≡ below_at b e v p i
 unfolding below_at
 below_part b e v p i m h =
@@ -212,7 +212,7 @@ below_part b e v p i m h =
     (λ a. rw (a, ne_eqb (octet_of e.kind) 51 m) refl)
 
 -- the node of record t of a table that passes, at a place of its own part
-module _ (b : List ℕ) (o : Octets b) (e : Entry) (K : Known b e) (v : List ℕ) (p : ℕ) (shaped : 0 < own_end (octet_of e.kind) v p)
+module _ (b : List ℕ) (o : Octets b) (e : Descriptor) (K : Known b e) (v : List ℕ) (p : ℕ) (shaped : 0 < own_end (octet_of e.kind) v p)
     (ag : agrees (record_in b e).body (node_of (octet_of e.kind) v p) ≡ true) (built : constructed_of (octet_of e.kind) ≡ true) (in_v : own_end (octet_of e.kind) v p ≤ length v)
     (P : Passes b (table_in b) (count_in b)) (t : ℕ) (h : t < count_in b) (is : record_in b e ≡ table_in b t) where
   F : Found b o e v p shaped ag
@@ -250,7 +250,7 @@ module _ (b : List ℕ) (o : Octets b) (e : Entry) (K : Known b e) (v : List ℕ
   stand_row = F.row ∙ ap (λ (r : Record). row_of r.body (node_of (octet_of e.kind) v p)) is
 
 -- the node at a place, which is shaped and agrees with record t
-module _ (b : List ℕ) (e : Entry) (K : Known b e) (v : List ℕ) (at : ℕ) (shaped : 0 < end_at v at) (t : ℕ) (is : record_in b e ≡ table_in b t) (ag : agrees
+module _ (b : List ℕ) (e : Descriptor) (K : Known b e) (v : List ℕ) (at : ℕ) (shaped : 0 < end_at v at) (t : ℕ) (is : record_in b e ≡ table_in b t) (ag : agrees
     (table_in b t).body (node_at v at) ≡ true) where
   at_own : 0 < own_end (get_or v (at + 2) 0) v (at + 3)
   at_own = own_shaped v at shaped
@@ -282,7 +282,7 @@ module _ (b : List ℕ) (e : Entry) (K : Known b e) (v : List ℕ) (at : ℕ) (s
         ∙ ap (λ (k : ℕ). row_of (table_in b t).body (node_of k v (at + 3))) at_kind
 
 -- a message of type t
-module _ (b v : List ℕ) (e : Entry) (t p : ℕ) (k : (octet_of e.kind) ≡ 51) (w : e.own ≡ t) where
+module _ (b v : List ℕ) (e : Descriptor) (t p : ℕ) (k : (octet_of e.kind) ≡ 51) (w : e.own ≡ t) where
   pub message_start : start_at e v p ≡ p
   message_start = sym (start_message e v p k)
 

@@ -13,17 +13,18 @@ use Rattle.table.specs.Octets.{record_shaped}
 use Rattle.table.specs.Reading.{tags_at, table_in, count_in}
 use Rattle.table.specs.Rules.{missing}
 use Rattle.table.specs.Passes.{Passes}
-use Rattle.records.specs.Entries.{unpacked, tag_count, Entered, Filled}
-use Rattle.records.specs.declared.entry.Entry.{Entry}
-use Rattle.records.proofs.Promises.{entered_tags}
+use Rattle.records.specs.Entries.{tag_count, Entered, Filled}
+use Rattle.records.specs.Descriptors.{entry_of, described}
+use Rattle.records.specs.declared.descriptor.Descriptor.{Descriptor}
+use Rattle.records.proofs.Promises.{entered_tags, describes}
 use Rattle.checker.proofs.Ready.{Ready}
 use Rattle.writer.specs.Known.{record_in, Known}
 use Rattle.writer.proofs.Frames.{Tagged}
 
-module _ (b : List ℕ) (e : Entry) (r : Record) (x : Entered b e r) where
+module _ (b : List ℕ) (e : Descriptor) (r : Record) (x : Entered b (entry_of e) r) where
   record_is : record_in b e ≡ r
   record_is =
-      let t : tags_at b (e.own - 3 * tag_count e) (tag_count e) ≡ r.tags = rw (entered_tags x) x.tags in
+      let t : tags_at b (e.own - 3 * tag_count (entry_of e)) (tag_count (entry_of e)) ≡ r.tags = rw (entered_tags x) x.tags in
       λ i. record { tags = t i; body = x.body i }
 
   known_by : record_shaped r ≡ true → Known b e
@@ -31,11 +32,11 @@ module _ (b : List ℕ) (e : Entry) (r : Record) (x : Entered b e r) where
 
 -- the entry of record t
 module _ (b index : List ℕ) (F : Filled b index (count_in b)) (t : ℕ) (h : t < count_in b) where
-  pub known : Known b (unpacked (get_or index t 0))
-  known = known_by b (unpacked (get_or index t 0)) (table_in b t) (F.entered t h) (F.shaped t h)
+  pub known : Known b (described (get_or index t 0))
+  known = known_by b (described (get_or index t 0)) (table_in b t) (describes _ (F.entered t h)).entered (F.shaped t h)
 
-  pub known_record : record_in b (unpacked (get_or index t 0)) ≡ table_in b t
-  known_record = record_is b (unpacked (get_or index t 0)) (table_in b t) (F.entered t h)
+  pub known_record : record_in b (described (get_or index t 0)) ≡ table_in b t
+  known_record = record_is b (described (get_or index t 0)) (table_in b t) (describes _ (F.entered t h)).entered
 
 -- what the check of a table promises of tags
 passes_tagged : (b : List ℕ) (T : Table) (n : ℕ) → Passes b T n → Tagged T

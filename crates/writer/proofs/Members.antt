@@ -19,8 +19,8 @@ use Rattle.table.specs.Syntax.{Record, Table}
 use Rattle.table.specs.Octets.{kind}
 use Rattle.table.specs.Fields.{constructed_of}
 use Rattle.table.specs.Reading.{table_in, count_in}
-use Rattle.records.specs.Entries.{unpacked}
-use Rattle.records.specs.declared.entry.Entry.{Entry}
+use Rattle.records.specs.Descriptors.{described}
+use Rattle.records.specs.declared.descriptor.Descriptor.{Descriptor}
 use Rattle.records.proofs.Promises.{entered_kind}
 use Rattle.coding.specs.Value.{Value}
 use Rattle.coding.specs.Judging.{judge_value}
@@ -43,7 +43,7 @@ use Rattle.writer.proofs.Notes.{Going, going_begin, going_turn, going_refused, g
 
 -- Of what stands before the entry e, from the i-th on, nothing is judged yet: it begins at `at`, `total` octets are written of what came before, and
 -- l has the notes of that.
-pub record GoingOn (b v : List ℕ) (e : Entry) (p n : ℕ) (first : List ℕ) (i at total : ℕ) (l : List ℕ) : Type 0 where
+pub record GoingOn (b v : List ℕ) (e : Descriptor) (p n : ℕ) (first : List ℕ) (i at total : ℕ) (l : List ℕ) : Type 0 where
   pub within : at ≤ length v
   pub small : total < 8194
   pub left : Left (table_in b) n (JudgedRow (table_in b) n v (row_in b e v p) (start_at e v p)) v (row_from b e v p i (count_at e v p - i)) at total
@@ -51,12 +51,12 @@ pub record GoingOn (b v : List ℕ) (e : Entry) (p n : ℕ) (first : List ℕ) (
       (λ m. NotedRow (table_in b) v m n (row_from b e v p i (count_at e v p - i)) at) (λ m. NotedRow (table_in b) v m n (row_in b e v p) (start_at e v p))
 
 -- what is to be shown of an answer
-abbrev pub RowSaid : List ℕ → List ℕ → Entry → ℕ → ℕ → List ℕ → Ruling → List ℕ → Type 0
+abbrev pub RowSaid : List ℕ → List ℕ → Descriptor → ℕ → ℕ → List ℕ → Ruling → List ℕ → Type 0
 RowSaid b v e p n first r last =
     (r ≡ told (row_form (table_in b) n (row_in b e v p)) v (judge_row (table_in b) n (row_in b e v p) (drop (start_at e v p) v)))
     × Noting (start_at e v p) first last r (λ m. NotedRow (table_in b) v m n (row_in b e v p) (start_at e v p))
 
-module _ (b v : List ℕ) (e : Entry) (p n : ℕ) (first : List ℕ) where
+module _ (b v : List ℕ) (e : Descriptor) (p n : ℕ) (first : List ℕ) where
   pub members_begin : start_at e v p ≤ length v → (at : ℕ) → at ≡ start_at e v p → GoingOn b v e p n first 0 at 0 first
   members_begin h at ea =
       rw ea (record {
@@ -94,7 +94,7 @@ none_below n k e =
     ltb-false k n l
 
 -- the i-th is there, of type t
-pub record Member (b index v : List ℕ) (e : Entry) (p n : ℕ) (first : List ℕ) : Type 0 where
+pub record Member (b index v : List ℕ) (e : Descriptor) (p n : ℕ) (first : List ℕ) : Type 0 where
   pub ready : Ready b index
   pub stands : Standing b v e p
   pub i : ℕ
@@ -108,7 +108,7 @@ pub record Member (b index v : List ℕ) (e : Entry) (p n : ℕ) (first : List �
   pub there : t < 256
 
 -- as the code finds it: y is the entry, c counts what stands before it
-abbrev pub member : (x : Passed) {v : List ℕ} {e y : Entry} {p n i at total c : ℕ} {first notes : List ℕ} → Standing x.octets.now v e p
+abbrev pub member : (x : Passed) {v : List ℕ} {e y : Descriptor} {p n i at total c : ℕ} {first notes : List ℕ} → Standing x.octets.now v e p
     → GoingOn x.octets.now v e p n first i at total notes → y ≡ e → c ≡ count_at y v p → i < c
     → (t : ℕ) → ◌≡◌ {A = Option ℕ} (Some t) (if_below 256 (below_at x.octets.now y v p i))
     → Member x.octets.now x.index.now v e p n first
@@ -127,7 +127,7 @@ member x {v} {e} {y} {p} {n} {i} {at} {total} {c} {first} {notes} S G ey ec h t 
       there = (some_below 256 (below_at x.octets.now e v p i) t (rw ey at et)).1;
     }
 
-module _ {b index v : List ℕ} {e : Entry} {p n : ℕ} {first : List ℕ} (m : Member b index v e p n first) where
+module _ {b index v : List ℕ} {e : Descriptor} {p n : ℕ} {first : List ℕ} (m : Member b index v e p n first) where
   abbrev T : Table
   T = table_in b
 
@@ -173,7 +173,7 @@ module _ {b index v : List ℕ} {e : Entry} {p n : ℕ} {first : List ℕ} (m : 
   member_small d last S = told_small _ v _ _ d.end d.size S.0 refl
 
   -- its entry x: it is a leaf, or a constructed node
-  module _ (x : Entry) (ex : x ≡ unpacked (get_or index m.t 0)) where
+  module _ (x : Descriptor) (ex : x ≡ described (get_or index m.t 0)) where
     pub entry_known : Known b x
     entry_known = rw ex (known b index m.ready.filled m.t member_there)
 

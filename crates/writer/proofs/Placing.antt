@@ -13,8 +13,8 @@ use Rattle.table.specs.Syntax.{Record, Table, constructed}
 use Rattle.table.specs.Reading.{table_in, count_in}
 use Rattle.table.specs.Fields.{constructed_of}
 use Rattle.kinds.specs.Kinds.{octet_of}
-use Rattle.records.specs.Entries.{unpacked}
-use Rattle.records.specs.declared.entry.Entry.{Entry}
+use Rattle.records.specs.Descriptors.{described}
+use Rattle.records.specs.declared.descriptor.Descriptor.{Descriptor}
 use Rattle.checker.proofs.Ready.{Ready, ready_by}
 use Rattle.coding.specs.Form.{encode}
 use Rattle.writer.specs.Nodes.{own_end, end_at, leaf_of}
@@ -38,12 +38,12 @@ use Rattle.writer.proofs.Putting.{Rows, rest_all, rows_end, Turn, Turned, now_ac
 use Rattle.writer.proofs.Putting.{size_small, front_fits, leaf_fits, leaf_turn, built_fits, built_turn}
 
 -- from the i-th on nothing is put yet
-abbrev pub Still : {b v notes : List ℕ} {e : Entry} {p to : ℕ} {first : List ℕ} → Puts b v notes e p to first → ℕ → ℕ → ℕ → List ℕ → Type 0
+abbrev pub Still : {b v notes : List ℕ} {e : Descriptor} {p to : ℕ} {first : List ℕ} → Puts b v notes e p to first → ℕ → ℕ → ℕ → List ℕ → Type 0
 Still {b} {v} {notes} {e} {p} {to} {first} X i at next buf =
     let row = row_from b e v p i (count_at e v p - i) in
     Rows (table_in b) X.level v (row_in b e v p) (start_at e v p) to first row at next buf × NotedRow (table_in b) v notes X.level row at
 
-module _ {b v notes : List ℕ} {e : Entry} {p to : ℕ} {first : List ℕ} (X : Puts b v notes e p to first) where
+module _ {b v notes : List ℕ} {e : Descriptor} {p to : ℕ} {first : List ℕ} (X : Puts b v notes e p to first) where
   pub put_begin : (at : ℕ) → at ≡ start_at e v p → Still X 0 at to first
   put_begin at ea = rw (ea, ← row_all b e v p (count_at e v p)) (rest_all _ _ v to first X.fits, X.noted)
 
@@ -61,7 +61,7 @@ module _ {b v notes : List ℕ} {e : Entry} {p to : ℕ} {first : List ℕ} (X :
     put_pass h g = rw (row_missing b e v p i (count_at e v p) h g) at G
 
 -- the i-th is there, of type t, whose entry is x
-pub record Member {b v notes : List ℕ} {e : Entry} {p to : ℕ} {first : List ℕ} (index : List ℕ) (X : Puts b v notes e p to first) : Type 0 where
+pub record Member {b v notes : List ℕ} {e : Descriptor} {p to : ℕ} {first : List ℕ} (index : List ℕ) (X : Puts b v notes e p to first) : Type 0 where
   pub octets : Octets b
   pub ready : Ready b index
   pub i : ℕ
@@ -75,14 +75,14 @@ pub record Member {b v notes : List ℕ} {e : Entry} {p to : ℕ} {first : List 
   pub t : ℕ
   pub is : t ≡ below_at b e v p i
   pub there : t < 256
-  pub x : Entry
-  pub entry : x ≡ unpacked (get_or index t 0)
+  pub x : Descriptor
+  pub entry : x ≡ described (get_or index t 0)
 
 -- as the code finds it: y is the entry of the row, c counts what stands before it
-abbrev pub member : (z : Passed) {v notes : List ℕ} {e y x : Entry} {p to c : ℕ} {first : List ℕ}
+abbrev pub member : (z : Passed) {v notes : List ℕ} {e y x : Descriptor} {p to c : ℕ} {first : List ℕ}
     (X : Puts z.octets.now v notes e p to first) (i at next : ℕ) (buf : List ℕ)
     → Still X i at next buf → at ≤ length v → length buf ≡ length first → y ≡ e → c ≡ count_at y v p → i < c
-    → (t : ℕ) → ◌≡◌ {A = Option ℕ} (Some t) (if_below 256 (below_at z.octets.now y v p i)) → x ≡ unpacked (get_or z.index.now t 0)
+    → (t : ℕ) → ◌≡◌ {A = Option ℕ} (Some t) (if_below 256 (below_at z.octets.now y v p i)) → x ≡ described (get_or z.index.now t 0)
     → Member z.index.now X
 member z {v} {notes} {e} {y} {x} {p} {to} {c} {first} X i at next buf G w s ey ec h t et ex =
     record {
@@ -103,7 +103,7 @@ member z {v} {notes} {e} {y} {x} {p} {to} {c} {first} X i at next buf G w s ey e
       entry = ex;
     }
 
-module _ {b index v notes : List ℕ} {e : Entry} {p to : ℕ} {first : List ℕ} {X : Puts b v notes e p to first} (m : Member index X) where
+module _ {b index v notes : List ℕ} {e : Descriptor} {p to : ℕ} {first : List ℕ} {X : Puts b v notes e p to first} (m : Member index X) where
   abbrev T : Table
   T = table_in b
 
@@ -199,7 +199,7 @@ module _ {b index v notes : List ℕ} {e : Entry} {p to : ℕ} {first : List ℕ
     put_front = rw front_is (front_fits turn size Z)
 
 -- the octets in front of it are put
-pub record Fronted {b index v notes : List ℕ} {e : Entry} {p to : ℕ} {first : List ℕ} {X : Puts b v notes e p to first} (m : Member index X) : Type 0 where
+pub record Fronted {b index v notes : List ℕ} {e : Descriptor} {p to : ℕ} {first : List ℕ} {X : Puts b v notes e p to first} (m : Member index X) : Type 0 where
   pub size : ℕ
   pub sized : Sized m size
   pub next : ℕ
@@ -209,7 +209,7 @@ pub record Fronted {b index v notes : List ℕ} {e : Entry} {p to : ℕ} {first 
   pub same : length buf ≡ length m.buf
 
 -- as the code finds it: w is the entry of whose tags they are
-abbrev pub fronted : {b index v notes : List ℕ} {e w : Entry} {p to : ℕ} {first : List ℕ} {X : Puts b v notes e p to first} (m : Member index X) (size : ℕ)
+abbrev pub fronted : {b index v notes : List ℕ} {e w : Descriptor} {p to : ℕ} {first : List ℕ} {X : Puts b v notes e p to first} (m : Member index X) (size : ℕ)
     → Sized m size → m.x ≡ w → (next : ℕ) (buf : List ℕ)
     → next ≡ m.next + length (heads (constructed (record_in b w).body) (record_in b w).tags size)
     → buf ≡ sets m.buf m.next (heads (constructed (record_in b w).body) (record_in b w).tags size)
@@ -218,7 +218,7 @@ abbrev pub fronted : {b index v notes : List ℕ} {e w : Entry} {p to : ℕ} {fi
 fronted m size z ew next buf en eb s =
     record { size = size; sized = z; next = next; buf = buf; nexts = rw (← ew) at en; bufs = rw (← ew) at eb; same = s }
 
-module _ {b index v notes : List ℕ} {e : Entry} {p to : ℕ} {first : List ℕ} {X : Puts b v notes e p to first} {m : Member index X} (q : Fronted m) where
+module _ {b index v notes : List ℕ} {e : Descriptor} {p to : ℕ} {first : List ℕ} {X : Puts b v notes e p to first} {m : Member index X} (q : Fronted m) where
   next_is : q.next ≡ m.next + length (heads (constructed (table_in b m.t).body) (table_in b m.t).tags q.size)
   next_is = q.nexts ∙ ap (λ (l : List ℕ). m.next + length l) (front_is m q.size q.sized)
 

@@ -12,7 +12,7 @@ use Rattle.coding.specs.declared.JudgingCause.TheVariants.{ValueShape, IllTyped,
 use Rattle.table.specs.Syntax.{Table}
 use Rattle.table.specs.Fields.{constructed_of}
 use Rattle.table.proofs.Promises.{constructed_of_lem}
-use Rattle.records.specs.declared.entry.Entry.{Entry}
+use Rattle.records.specs.declared.descriptor.Descriptor.{Descriptor}
 use Rattle.coding.specs.Form.{encode}
 use Rattle.coding.specs.Judging.{a_leaf, agrees, judge_value}
 use Rattle.writer.specs.Nodes.{own_end, end_at, leaf_of, node_of, node_at, IsMarked}
@@ -26,10 +26,10 @@ use Rattle.writer.proofs.Nodes.{leaf_node}
 use Rattle.writer.proofs.Below.{value_shape, value_level, value_ill, value_leaf}
 
 -- what an entry says of its kind
-pub known_simple : (b : List ℕ) (e : Entry) → Known b e → e.simple ≡ not (constructed_of (octet_of e.kind))
+pub known_simple : (b : List ℕ) (e : Descriptor) → Known b e → e.simple ≡ not (constructed_of (octet_of e.kind))
 known_simple b e K = K.entered.simple ∙ ap not (constructed_of_lem b (octet_of e.kind) e.own)
 
-module _ (b : List ℕ) (e : Entry) (v : List ℕ) (at n : ℕ) (M : IsMarked v at) (o : octet_of e.kind ≡ get_or v (at + 2) 0) (T : Table) (t : ℕ) (same : (T t).body ≡ (record_in b e).body) where
+module _ (b : List ℕ) (e : Descriptor) (v : List ℕ) (at n : ℕ) (M : IsMarked v at) (o : octet_of e.kind ≡ get_or v (at + 2) 0) (T : Table) (t : ℕ) (same : (T t).body ≡ (record_in b e).body) where
   abbrev Tells : Ruling
   Tells = told (contents_form T (n - 1) (T t).body) v (judge_value T n t (drop at v))
 

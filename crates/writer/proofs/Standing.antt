@@ -11,10 +11,10 @@ use lib.ListN.{get_or}
 use Rattle.octets.proofs.Tests.{test, or_by}
 use Rattle.octets.specs.Numbers.{two}
 use Rattle.kinds.specs.Kinds.{octet_of}
-use Rattle.records.specs.declared.entry.Entry.{Entry}
+use Rattle.records.specs.declared.descriptor.Descriptor.{Descriptor}
 use Rattle.writer.specs.Standing.{start_at, count_at, parts_of, place_of, part_of, below_at, row_from}
 
-module _ (e : Entry) (v : List ℕ) (p : ℕ) where
+module _ (e : Descriptor) (v : List ℕ) (p : ℕ) where
   pub start_past : p ≤ start_at e v p
   unfolding start_at
   start_past =
@@ -100,7 +100,7 @@ module _ (e : Entry) (v : List ℕ) (p : ℕ) where
       below_list b i = rw (has_not, ne_eqb (octet_of e.kind) 51 g, ← part_list i) refl
 
 -- the loop over a row: the i-th is there, or it is not
-module _ (b : List ℕ) (e : Entry) (v : List ℕ) (p i n : ℕ) (h : i < n) where
+module _ (b : List ℕ) (e : Descriptor) (v : List ℕ) (p i n : ℕ) (h : i < n) where
   left : n - i ≡ suc (n - (i + 1))
   left = omega arith
 
@@ -112,9 +112,9 @@ module _ (b : List ℕ) (e : Entry) (v : List ℕ) (p i n : ℕ) (h : i < n) whe
   unfolding row_from
   row_missing g = rw (left, le-ltb (below_at b e v p i) 256 g) refl
 
-pub row_over : (b : List ℕ) (e : Entry) (v : List ℕ) (p i n : ℕ) → n ≤ i → row_from b e v p i (n - i) ≡ []
+pub row_over : (b : List ℕ) (e : Descriptor) (v : List ℕ) (p i n : ℕ) → n ≤ i → row_from b e v p i (n - i) ≡ []
 unfolding row_from
 row_over b e v p i n h = let z : n - i ≡ 0 = omega arith in rw z refl
 
-pub row_all : (b : List ℕ) (e : Entry) (v : List ℕ) (p n : ℕ) → row_from b e v p 0 n ≡ row_from b e v p 0 (n - 0)
+pub row_all : (b : List ℕ) (e : Descriptor) (v : List ℕ) (p n : ℕ) → row_from b e v p 0 n ≡ row_from b e v p 0 (n - 0)
 row_all b e v p n = let z : n - 0 ≡ n = omega arith in rw z refl

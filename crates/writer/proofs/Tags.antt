@@ -25,7 +25,8 @@ use Rattle.table.specs.Reading.{tags_at}
 use Rattle.table.proofs.Promises.{shaped_classes}
 use Rattle.kinds.specs.Kinds.{octet_of}
 use Rattle.records.specs.Entries.{outermost_code, tag_count, tag_place}
-use Rattle.records.specs.declared.entry.Entry.{Entry}
+use Rattle.records.specs.Descriptors.{entry_of}
+use Rattle.records.specs.declared.descriptor.Descriptor.{Descriptor}
 use Rattle.records.proofs.Promises.{entered_tags, entered_bit}
 use Rattle.writer.specs.Frames.{cap, identifier_size, length_size, framed, some, heads}
 use Rattle.writer.specs.Known.{tags_from, record_in, Known, Short}
@@ -66,69 +67,69 @@ pub framed_end : (b : List ℕ) (w q i j k : ℕ) → i ≤ j → w ≡ framed (
 unfolding framed tags_at
 framed_end b w q i j k h e = let m : i - j ≡ 0 = omega arith in sym (rw m at e)
 
-module _ (b : List ℕ) (o : Octets b) (e : Entry) (K : Known b e) where
-  count_is : tag_count e ≡ length (record_in b e).tags
+module _ (b : List ℕ) (o : Octets b) (e : Descriptor) (K : Known b e) where
+  count_is : tag_count (entry_of e) ≡ length (record_in b e).tags
   count_is = entered_tags K.entered
 
-  far : 3 * tag_count e ≤ e.own
+  far : 3 * tag_count (entry_of e) ≤ e.own
   far = let h = K.entered.behind in let c = count_is in omega arith
 
-  place : (j : ℕ) → j ≤ tag_count e → tag_place e j ≡ e.own - 3 * tag_count e + 3 * j
+  place : (j : ℕ) → j ≤ tag_count (entry_of e) → tag_place (entry_of e) j ≡ e.own - 3 * tag_count (entry_of e) + 3 * j
   place j h = let f = far in omega arith
 
   -- the octets of the j-th tag
-  module _ (j : ℕ) (h : j < tag_count e) where
-    class_small : get_or b (tag_place e j) 0 < 4
+  module _ (j : ℕ) (h : j < tag_count (entry_of e)) where
+    class_small : get_or b (tag_place (entry_of e) j) 0 < 4
     class_small =
-        let c = leb-true (get_or b (e.own - 3 * tag_count e + 3 * j) 0) 3 (all_tags (λ g. leb g.class 3) b (e.own - 3 * tag_count e) (tag_count e) j
+        let c = leb-true (get_or b (e.own - 3 * tag_count (entry_of e) + 3 * j) 0) 3 (all_tags (λ g. leb g.class 3) b (e.own - 3 * tag_count (entry_of e)) (tag_count (entry_of e)) j
         (shaped_classes (record_in b e) K.shaped) h) in
         rw (place j (omega arith)) (omega arith)
 
-    number_small : two b (tag_place e j + 1) < 65536
-    number_small = omega (arith, o (tag_place e j + 1), o (tag_place e j + 1 + 1))
+    number_small : two b (tag_place (entry_of e) j + 1) < 65536
+    number_small = omega (arith, o (tag_place (entry_of e) j + 1), o (tag_place (entry_of e) j + 1 + 1))
 
-    tag_octets_lem : (c : Bool) → code_octets (code (get_or b (tag_place e j) 0) c (two b (tag_place e j + 1))) ≡ identifier (get_or b (tag_place e j) 0) c (two b
-        (tag_place e j + 1))
+    tag_octets_lem : (c : Bool) → code_octets (code (get_or b (tag_place (entry_of e) j) 0) c (two b (tag_place (entry_of e) j + 1))) ≡ identifier (get_or b (tag_place (entry_of e) j) 0) c (two b
+        (tag_place (entry_of e) j + 1))
     tag_octets_lem c = code_octets_lem _ c _ class_small number_small
 
     -- an item's identifier and length octets, where c is the code of that tag
-    module _ (c k s : ℕ) (ec : c ≡ code (get_or b (tag_place e j) 0) (ltb j e.explicit || not e.simple) (two b (tag_place e j + 1))) (es : s ≡ length
+    module _ (c k s : ℕ) (ec : c ≡ code (get_or b (tag_place (entry_of e) j) 0) (ltb j e.explicit || not e.simple) (two b (tag_place (entry_of e) j + 1))) (es : s ≡ length
         (code_octets c ++ length_octets k)) where
-      header_size : s ≡ identifier_size (two b (tag_place e j + 1)) + length_size k
+      header_size : s ≡ identifier_size (two b (tag_place (entry_of e) j + 1)) + length_size k
       header_size = es ∙ length-append (code_octets c) (length_octets k)
           ∙ rw (
             ec,
             tag_octets_lem (ltb j e.explicit || not e.simple),
-            identifier_length (get_or b (tag_place e j) 0) (ltb j e.explicit || not e.simple)
-                (two b (tag_place e j + 1)),
+            identifier_length (get_or b (tag_place (entry_of e) j) 0) (ltb j e.explicit || not e.simple)
+                (two b (tag_place (entry_of e) j + 1)),
           ) refl
 
       pub header_small : k < 65536 → s < 8
-      header_small g = let l = header_size in omega (arith, length_small k g, identifier_small (two b (tag_place e j + 1)))
+      header_small g = let l = header_size in omega (arith, length_small k g, identifier_small (two b (tag_place (entry_of e) j + 1)))
 
   -- the loop that measures
-  pub framed_turn : (w i j k c s : ℕ) → j < i → i ≤ tag_count e → w ≡ framed (tags_at b (tag_place e j) (i - j)) k
-      → c ≡ code (get_or b (tag_place e (i - 1)) 0) (ltb (i - 1) e.explicit || not e.simple) (two b (tag_place e (i - 1) + 1))
+  pub framed_turn : (w i j k c s : ℕ) → j < i → i ≤ tag_count (entry_of e) → w ≡ framed (tags_at b (tag_place (entry_of e) j) (i - j)) k
+      → c ≡ code (get_or b (tag_place (entry_of e) (i - 1)) 0) (ltb (i - 1) e.explicit || not e.simple) (two b (tag_place (entry_of e) (i - 1) + 1))
       → s ≡ length (code_octets c ++ length_octets k)
-      → w ≡ framed (tags_at b (tag_place e j) (i - 1 - j)) (cap (s + k))
+      → w ≡ framed (tags_at b (tag_place (entry_of e) j) (i - 1 - j)) (cap (s + k))
   framed_turn w i j k c s h g q ec es =
-      let l : i - 1 < tag_count e = omega arith in
+      let l : i - 1 < tag_count (entry_of e) = omega arith in
       let m : i - j ≡ suc (i - 1 - j) = omega arith in
       let d : j + (i - 1 - j) ≡ i - 1 = omega arith in
-      let p : tag_place e j + 3 * (i - 1 - j) + 1 ≡ tag_place e (i - 1) + 1 = rw (place j (omega arith), place (i - 1) (omega arith), ← d) (omega arith) in
+      let p : tag_place (entry_of e) j + 3 * (i - 1 - j) + 1 ≡ tag_place (entry_of e) (i - 1) + 1 = rw (place j (omega arith), place (i - 1) (omega arith), ← d) (omega arith) in
       q ∙ rw (m, framed_last, p, ← header_size (i - 1) l c k s ec es) refl
 
   -- one tag of one octet, and a length of one octet
   module _ (n : ℕ) (S : Short e n) where
-    code_is : (m : ℕ) → tag_count e ≡ m → e.code ≡ outermost_code (tags_at b (e.own - 3 * m) m) (record_in b e).body
+    code_is : (m : ℕ) → tag_count (entry_of e) ≡ m → e.code ≡ outermost_code (tags_at b (e.own - 3 * m) m) (record_in b e).body
     code_is m q = K.entered.code ∙ ap (λ (i : ℕ). outermost_code (tags_at b (e.own - 3 * i) i) (record_in b e).body) q
 
-    one_tag : tag_count e ≡ 1
+    one_tag : tag_count (entry_of e) ≡ 1
     unfolding tag_count outermost_code tags_at
     one_tag =
         let z = S.one in
         test (eqb (octet_of e.kind) 50)
-        (λ t. let q : tag_count e ≡ 0 = rw (t, z) refl in absurd (omega (arith, code_is 0 q, S.low)))
+        (λ t. let q : tag_count (entry_of e) ≡ 0 = rw (t, z) refl in absurd (omega (arith, code_is 0 q, S.low)))
         (λ t. rw (t, z) refl)
 
     abbrev class : ℕ
@@ -170,44 +171,44 @@ heads_first : (b : List ℕ) (c : Bool) (k q m : ℕ) → heads c (tags_at b q (
 unfolding heads tags_at
 heads_first b c k q m = refl
 
-pub record Heads (b : List ℕ) (e : Entry) (k : ℕ) (first : List ℕ) (to : ℕ) (buf : List ℕ) (i at : ℕ) : Type 0 where
+pub record Heads (b : List ℕ) (e : Descriptor) (k : ℕ) (first : List ℕ) (to : ℕ) (buf : List ℕ) (i at : ℕ) : Type 0 where
   pub long : to + length (heads (constructed (record_in b e).body) (record_in b e).tags k) ≡ at + length (heads (constructed (record_in b e).body) (tags_from b
       e i) k)
   pub target : sets first to (heads (constructed (record_in b e).body) (record_in b e).tags k) ≡ sets buf at (heads (constructed (record_in b e).body)
       (tags_from b e i) k)
 
-module _ (b : List ℕ) (o : Octets b) (e : Entry) (K : Known b e) (k : ℕ) (first : List ℕ) (to : ℕ) (buf : List ℕ) (i at : ℕ) (S : Heads b e k first to buf i at)
+module _ (b : List ℕ) (o : Octets b) (e : Descriptor) (K : Known b e) (k : ℕ) (first : List ℕ) (to : ℕ) (buf : List ℕ) (i at : ℕ) (S : Heads b e k first to buf i at)
     (room : to + length (heads (constructed (record_in b e).body) (record_in b e).tags k) ≤ length buf) where
   abbrev Body : Bool
   Body = constructed (record_in b e).body
 
-  pub heads_end : tag_count e ≤ i → (at ≡ to + length (heads Body (record_in b e).tags k)) × (buf ≡ sets first to (heads Body (record_in b e).tags k))
+  pub heads_end : tag_count (entry_of e) ≤ i → (at ≡ to + length (heads Body (record_in b e).tags k)) × (buf ≡ sets first to (heads Body (record_in b e).tags k))
   unfolding heads tags_at
   heads_end h =
-      let m : tag_count e - i ≡ 0 = omega arith in
+      let m : tag_count (entry_of e) - i ≡ 0 = omega arith in
       let l = rw m at S.long in
       (omega arith, sym (rw m at S.target))
 
-  module _ (h : i < tag_count e) (c inside : ℕ) (ec : c ≡ code (get_or b (tag_place e i) 0) (ltb i e.explicit || not e.simple) (two b (tag_place e i + 1)))
+  module _ (h : i < tag_count (entry_of e)) (c inside : ℕ) (ec : c ≡ code (get_or b (tag_place (entry_of e) i) 0) (ltb i e.explicit || not e.simple) (two b (tag_place (entry_of e) i + 1)))
       (ei : inside ≡ framed (tags_from b e (i + 1)) k) where
     abbrev Item : List ℕ
     Item = code_octets c ++ length_octets inside
 
-    header : Item ≡ identifier (get_or b (tag_place e i) 0) (ltb (i + 1) (tag_count e) || Body) (two b (tag_place e i + 1)) ++ length_octets (framed (tags_from b e
+    header : Item ≡ identifier (get_or b (tag_place (entry_of e) i) 0) (ltb (i + 1) (tag_count (entry_of e)) || Body) (two b (tag_place (entry_of e) i + 1)) ++ length_octets (framed (tags_from b e
         (i + 1)) k)
     header =
         let q = entered_tags K.entered in
-        let d : (ltb i e.explicit || not e.simple) ≡ (ltb (i + 1) (tag_count e) || Body) = entered_bit K.entered i (rw (← q) h)
+        let d : (ltb i e.explicit || not e.simple) ≡ (ltb (i + 1) (tag_count (entry_of e)) || Body) = entered_bit K.entered i (rw (← q) h)
         ∙ ap (λ (n : ℕ). ltb (i + 1) n || Body) (sym q) in
         rw (ec, tag_octets_lem b o e K i h (ltb i e.explicit || not e.simple), d, ei) refl
 
     heads_step : heads Body (tags_from b e i) k ≡ Item ++ heads Body (tags_from b e (i + 1)) k
     heads_step =
-        let m : tag_count e - i ≡ suc (tag_count e - (i + 1)) = omega arith in
-        let q : tag_place e i + 3 ≡ tag_place e (i + 1) = rw (place b o e K i (omega arith), place b o e K (i + 1) (omega arith)) (omega arith) in
-        ap (λ (n : ℕ). heads Body (tags_at b (tag_place e i) n) k) m
-        ∙ heads_first b Body k (tag_place e i) (tag_count e - (i + 1))
-        ∙ rw (header, q, some_tags b (tag_place e (i + 1)) i (tag_count e), append_assoc) refl
+        let m : tag_count (entry_of e) - i ≡ suc (tag_count (entry_of e) - (i + 1)) = omega arith in
+        let q : tag_place (entry_of e) i + 3 ≡ tag_place (entry_of e) (i + 1) = rw (place b o e K i (omega arith), place b o e K (i + 1) (omega arith)) (omega arith) in
+        ap (λ (n : ℕ). heads Body (tags_at b (tag_place (entry_of e) i) n) k) m
+        ∙ heads_first b Body k (tag_place (entry_of e) i) (tag_count (entry_of e) - (i + 1))
+        ∙ rw (header, q, some_tags b (tag_place (entry_of e) (i + 1)) i (tag_count (entry_of e)), append_assoc) refl
 
     lengths : length (heads Body (tags_from b e i) k) ≡ length Item + length (heads Body (tags_from b e (i + 1)) k)
     lengths = ap length heads_step ∙ length-append Item (heads Body (tags_from b e (i + 1)) k)

@@ -7,7 +7,7 @@ use native.Mathlib.Omega.{arith}
 use lib.ListN.{length, drop}
 use Rattle.table.specs.Reading.{table_in, count_in}
 use Rattle.kinds.specs.Kinds.{octet_of}
-use Rattle.records.specs.declared.entry.Entry.{Entry}
+use Rattle.records.specs.declared.descriptor.Descriptor.{Descriptor}
 use Rattle.coding.specs.Form.{form_at}
 use Rattle.coding.specs.Judging.{judge_value}
 use Rattle.writer.specs.Standing.{start_at, row_in, Standing}
@@ -19,7 +19,7 @@ use Rattle.writer.specs.declared.put.Placed.{Placed}
 use Rattle.writer.proofs.Rows.{Alike, alike_told, alike_written, alike_ended, alike_done, one_row}
 use Rattle.writer.proofs.Finding.{message_start, message_row, message_stand}
 
-module _ (b v : List ℕ) (few : count_in b ≤ 128) (t : ℕ) (h : t < count_in b) (e : Entry) (k : (octet_of e.kind) ≡ 51) (w : e.own ≡ t) where
+module _ (b v : List ℕ) (few : count_in b ≤ 128) (t : ℕ) (h : t < count_in b) (e : Descriptor) (k : (octet_of e.kind) ≡ 51) (w : e.own ≡ t) where
   pub whole_stands : Standing b v e 0
   whole_stands = message_stand b v e t 0 k w (omega arith) h
 
@@ -38,7 +38,7 @@ module _ (b v : List ℕ) (few : count_in b ≤ 128) (t : ℕ) (h : t < count_in
       (Q.0 ∙ sym (alike_told (one_row (table_in b) n t v) v), Q.1)
 
 -- the same to be put
-module _ (b v notes : List ℕ) (few : count_in b ≤ 128) (t : ℕ) (h : t < count_in b) (e : Entry) (k : (octet_of e.kind) ≡ 51) (w : e.own ≡ t) (n : ℕ)
+module _ (b v notes : List ℕ) (few : count_in b ≤ 128) (t : ℕ) (h : t < count_in b) (e : Descriptor) (k : (octet_of e.kind) ≡ 51) (w : e.own ≡ t) (n : ℕ)
     (little : length v ≤ 16384) (noted : NotedRow (table_in b) v notes n (t ∷ []) 0) (buf : List ℕ)
     (F : Fits (form_at (table_in b) n t) (judge_value (table_in b) n t v) 0 buf) where
   alike : Alike (form_at (table_in b) n t) (row_form (table_in b) n (t ∷ [])) (judge_value (table_in b) n t v) (judge_row (table_in b) n (t ∷ []) v)

@@ -5,7 +5,7 @@ use Rattle.std.proofs.lemmas.List.Edits.{sets}
 use Rattle.coding.specs.declared.JudgingCause.{JudgingCause}
 use Rattle.octets.specs.Answer.{Answer}
 use Rattle.table.specs.Reading.{table_in}
-use Rattle.records.specs.declared.entry.Entry.{Entry}
+use Rattle.records.specs.declared.descriptor.Descriptor.{Descriptor}
 use Rattle.writer.specs.Standing.{start_at, row_in, Standing}
 use Rattle.writer.specs.Rows.{judge_row, row_form}
 use Rattle.writer.specs.Told.{written, ended, IsDone}
@@ -25,7 +25,7 @@ pub record IsPut {A : Type 0} (f : A → List ℕ) (W : Answer JudgingCause A) (
   pub buffer : last ≡ sets first to (written f W)
 
 -- what stands in a node before the entry e is accepted with some levels left, is noted, and fits
-pub record Puts (b v notes : List ℕ) (e : Entry) (p to : ℕ) (buf : List ℕ) : Type 0 where
+pub record Puts (b v notes : List ℕ) (e : Descriptor) (p to : ℕ) (buf : List ℕ) : Type 0 where
   pub level : ℕ
   pub little : length v ≤ 16384
   pub stands : Standing b v e p
@@ -33,6 +33,6 @@ pub record Puts (b v notes : List ℕ) (e : Entry) (p to : ℕ) (buf : List ℕ)
   pub noted : NotedRow (table_in b) v notes level (row_in b e v p) (start_at e v p)
 
 -- and was put there
-abbrev pub PutBy : {b v notes : List ℕ} {e : Entry} {p to : ℕ} {buf : List ℕ} → Puts b v notes e p to buf → List ℕ → Placed → Type 0
+abbrev pub PutBy : {b v notes : List ℕ} {e : Descriptor} {p to : ℕ} {buf : List ℕ} → Puts b v notes e p to buf → List ℕ → Placed → Type 0
 PutBy {b} {v} {notes} {e} {p} {to} {buf} x last r =
     IsPut (row_form (table_in b) x.level (row_in b e v p)) (judge_row (table_in b) x.level (row_in b e v p) (drop (start_at e v p) v)) v to buf last r

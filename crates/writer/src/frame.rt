@@ -2,12 +2,13 @@
 ghost use Rattle.std.specs.Prelude.{◌≡◌, true, ◌<◌, ◌≤◌, ◌+◌, length};
 ghost use Rattle.std.proofs.lemmas.List.Edits.{sets};
 ghost use Rattle.table.specs.Syntax.{constructed};
-ghost use Rattle.records.specs.Entries.{unpacked};
+ghost use Rattle.records.specs.Descriptors.{described};
 ghost use Rattle.writer.specs.Frames.{cap, framed, heads};
 ghost use Rattle.writer.specs.Known.{tags_from, record_in, Known, Short};
 
 use ber::item;
-use records::entry::{first, tag_code, tag_count, unpack};
+use records::descriptor::{describe, tag_code, tag_count};
+use records::entry::first;
 
 // Stands for every length above that of the longest message.
 const OVER: usize = 8193;
@@ -24,12 +25,12 @@ pub fn grow(a: usize, b: usize) -> usize
 
 // The length of the items by the tags from the j-th on, around n contents octets.
 fn size_from(table: &[u8], w: u64, j: usize, n: usize) -> usize
-    requires { Known table.now (unpacked w)
+    requires { Known table.now (described w)
         × (n < 8194) }
-    ensures { (result ≡ framed (tags_from table.now (unpacked w) j) n)
+    ensures { (result ≡ framed (tags_from table.now (described w) j) n)
         × (result < 8194) }
 {
-    let e = unpack(w);
+    let e = describe(w);
     let mut total = n;
     for i in (j..tag_count(e)).rev() {
         let head = item::header_size(tag_code(table, e, i), total as u16);
@@ -40,17 +41,17 @@ fn size_from(table: &[u8], w: u64, j: usize, n: usize) -> usize
 
 // Whether there is one tag, and its code and the length n take an octet each.
 fn is_short(w: u64, n: usize) -> bool
-    ensures { result ≡ true → Short (unpacked w) n }
+    ensures { result ≡ true → Short (described w) n }
 {
-    let e = unpack(w);
+    let e = describe(w);
     e.explicit == 0 && e.code < 256 && n < 128
 }
 
 // The length of all items, around n contents octets.
 pub fn size(table: &[u8], w: u64, n: usize) -> usize
-    requires { Known table.now (unpacked w)
+    requires { Known table.now (described w)
         × (n < 8194) }
-    ensures { (result ≡ framed (record_in table.now (unpacked w)).tags n)
+    ensures { (result ≡ framed (record_in table.now (described w)).tags n)
         × (result < 8194) }
 {
     if is_short(w, n) {
@@ -61,16 +62,16 @@ pub fn size(table: &[u8], w: u64, n: usize) -> usize
 
 // Their identifier and length octets.
 fn put_all(table: &[u8], w: u64, n: usize, buf: &mut [u8], to: usize) -> usize
-    requires { let r = record_in table.now (unpacked w) in
-        Known table.now (unpacked w)
+    requires { let r = record_in table.now (described w) in
+        Known table.now (described w)
         × (n < 8194)
         × (to + length (heads (constructed r.body) r.tags n) ≤ length buf.old) }
-    ensures { let x = record_in table.now (unpacked w) in
+    ensures { let x = record_in table.now (described w) in
         let h = heads (constructed x.body) x.tags n in
         (result ≡ to + length h)
         × (buf.new ≡ sets buf.old to h) }
 {
-    let e = unpack(w);
+    let e = describe(w);
     let mut next = to;
     for i in 0..tag_count(e) {
         let code = tag_code(table, e, i);
@@ -82,11 +83,11 @@ fn put_all(table: &[u8], w: u64, n: usize, buf: &mut [u8], to: usize) -> usize
 
 // Puts the octets before the n contents octets; where they end.
 pub fn put(table: &[u8], w: u64, n: usize, buf: &mut [u8], to: usize) -> usize
-    requires { let r = record_in table.now (unpacked w) in
-        Known table.now (unpacked w)
+    requires { let r = record_in table.now (described w) in
+        Known table.now (described w)
         × (n < 8194)
         × (to + length (heads (constructed r.body) r.tags n) ≤ length buf.old) }
-    ensures { let x = record_in table.now (unpacked w) in
+    ensures { let x = record_in table.now (described w) in
         let h = heads (constructed x.body) x.tags n in
         (result ≡ to + length h)
         × (buf.new ≡ sets buf.old to h) }

@@ -6,7 +6,7 @@ ghost use Rattle.table.specs.Octets.{kind};
 ghost use Rattle.table.specs.Fields.{constructed_of};
 ghost use Rattle.table.specs.Reading.{table_in, count_in};
 ghost use Rattle.kinds.specs.Kinds.{octet_of};
-ghost use Rattle.records.specs.Entries.{unpacked};
+ghost use Rattle.records.specs.Descriptors.{described};
 ghost use Rattle.coding.specs.Form.{form_at};
 ghost use Rattle.coding.specs.Judging.{agrees, judge_value};
 ghost use Rattle.writer.specs.Nodes.{own_end, node_of, IsMarked};
@@ -21,7 +21,8 @@ use crate::{contents, frame, node};
 use checker::passed::Passed;
 use coding::{JudgingCause, LEVELS, Unfit};
 use kinds::Kind;
-use records::entry::{Entry, lists, parts, unpack, whole};
+use records::descriptor::{Descriptor, describe, lists, parts};
+use records::entry::whole;
 
 // Where a part of the value ends, and how many octets are written of it, to 8,193.
 #[derive(Clone, Copy, Debug, PartialEq, Eq)]
@@ -37,7 +38,7 @@ fn unfit(cause: JudgingCause, place: usize) -> Result<Judged, Unfit>
 }
 
 // Whether the shaped leaf of a record's kind with its own part at p agrees with the record: whether the number of an ENUMERATED is listed.
-fn suits(table: &[u8], e: Entry, v: &[u8], p: usize) -> bool
+fn suits(table: &[u8], e: Descriptor, v: &[u8], p: usize) -> bool
     requires { (p < 20000)
         × (constructed_of (octet_of e.kind) ≡ false)
         × (0 < own_end (octet_of e.kind) v.now p)
@@ -51,7 +52,7 @@ fn suits(table: &[u8], e: Entry, v: &[u8], p: usize) -> bool
 }
 
 // A leaf of a record's kind: where it ends, and how many contents octets it has.
-fn judge_leaf(table: &[u8], e: Entry, v: &[u8], at: usize, level: usize) -> Result<Judged, Unfit>
+fn judge_leaf(table: &[u8], e: Descriptor, v: &[u8], at: usize, level: usize) -> Result<Judged, Unfit>
     requires { (length v.now ≤ 16384)
         × IsMarked v.now at
         × (octet_of e.kind ≡ get_or v.now (at + 2) 0)
@@ -120,7 +121,7 @@ fn judge_built(
     requires { (length v.now ≤ 16384)
         × (t < count_in table.now.octets.now)
         × IsMarked v.now at
-        × (octet_of (unpacked (get_or table.now.index.now t 0)).kind ≡ get_or v.now (at + 2) 0)
+        × (octet_of (described (get_or table.now.index.now t 0)).kind ≡ get_or v.now (at + 2) 0)
         × (constructed_of (get_or v.now (at + 2) 0) ≡ true) }
     ensures { let T = table_in table.now.octets.now in
         let o = v.now in
@@ -131,7 +132,7 @@ fn judge_built(
     let index = table.index;
     let p = at + 3;
     let w = index[t];
-    let e = unpack(w);
+    let e = describe(w);
     if node::own_end(v, e.kind, p).is_none() {
         return unfit(JudgingCause::ValueShape, at);
     }
@@ -157,19 +158,19 @@ fn judge_members(
     notes: &mut [u16; 4096],
 ) -> Result<Judged, Unfit>
     requires { (length v.now ≤ 16384)
-        × Standing table.now.octets.now v.now (unpacked w) p }
+        × Standing table.now.octets.now v.now (described w) p }
     ensures { let b = table.now.octets.now in
         let T = table_in b in
         let o = v.now in
-        let row = row_in b (unpacked w) o p in
-        let start = start_at (unpacked w) o p in
+        let row = row_in b (described w) o p in
+        let start = start_at (described w) o p in
         (result ≡ told (row_form T level row) o (judge_row T level row (drop start o)))
         × Noting start notes.old notes.new result (λ m. NotedRow T o m level row start) }
 {
     // Taken out once: the loop then has them in registers.
     let octets = table.octets;
     let index = table.index;
-    let e = unpack(w);
+    let e = describe(w);
     let s = parts(octets, e);
     let n = node::count(e, v, p);
     let mut at = node::start(e, v, p);
@@ -182,7 +183,7 @@ fn judge_members(
             return unfit(JudgingCause::ValueShape, at);
         }
         let x = index[t];
-        let r = unpack(x);
+        let r = describe(x);
         if v[at + 2] != r.kind.octet() {
             return unfit(why_not_awaited(v, at, level), at);
         }

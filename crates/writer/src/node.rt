@@ -14,7 +14,8 @@ ghost use Rattle.writer.specs.Standing.{start_at, count_at, parts_of, below_at, 
 use crate::contents;
 use kinds::Kind;
 use octets::octet;
-use records::entry::{Entry, Span, optional, part, parts};
+use records::descriptor::{Descriptor, parts};
+use records::entry::{Span, optional, part};
 
 // Whether the octets of a node with its mark are there, to its kind.
 #[tactic(auto, unfolding(crate::specs::Nodes::end_at))]
@@ -97,7 +98,7 @@ fn is_complete(table: &[u8], p: usize, n: usize, v: &[u8], q: usize) -> bool
 }
 
 // Whether the shaped node of a record's kind, which is constructed, agrees with the record.
-pub fn agrees(table: &[u8], e: Entry, v: &[u8], p: usize) -> bool
+pub fn agrees(table: &[u8], e: Descriptor, v: &[u8], p: usize) -> bool
     requires { (p < 20000)
         × (constructed_of (octet_of e.kind) ≡ true)
         × (0 < own_end (octet_of e.kind) v.now p) }
@@ -118,7 +119,7 @@ pub fn agrees(table: &[u8], e: Entry, v: &[u8], p: usize) -> bool
 
 // Where the first value begins that stands in a node.
 #[tactic(auto, unfolding(crate::specs::Standing::start_at))]
-pub fn start(e: Entry, v: &[u8], p: usize) -> usize
+pub fn start(e: Descriptor, v: &[u8], p: usize) -> usize
     requires { start_at e v.now p ≤ length v.now }
     ensures { result ≡ start_at e v.now p }
 {
@@ -132,7 +133,7 @@ pub fn start(e: Entry, v: &[u8], p: usize) -> usize
 
 // How many values stand in it, at most.
 #[tactic(auto, unfolding(crate::specs::Standing::start_at, crate::specs::Standing::count_at))]
-pub fn count(e: Entry, v: &[u8], p: usize) -> usize
+pub fn count(e: Descriptor, v: &[u8], p: usize) -> usize
     requires { start_at e v.now p ≤ length v.now }
     ensures { (result ≡ count_at e v.now p)
         × (result < 65536) }
@@ -147,7 +148,7 @@ pub fn count(e: Entry, v: &[u8], p: usize) -> usize
 // The record number of the i-th of them, where s are the parts of e; none for a member that is not present, or a type
 // that no table has.
 #[tactic(auto, unfolding(crate::specs::Standing::start_at, crate::specs::Standing::count_at, crate::specs::Standing::part_of, crate::specs::Standing::below_at))]
-pub fn below(table: &[u8], e: Entry, s: Span, v: &[u8], p: usize, i: usize) -> Option<usize>
+pub fn below(table: &[u8], e: Descriptor, s: Span, v: &[u8], p: usize, i: usize) -> Option<usize>
     requires { (s ≡ parts_of table.now e)
         × Standing table.now v.now e p
         × (i < count_at e v.now p) }

@@ -1,7 +1,7 @@
 // Puts the form of a value that was accepted into a buffer, front to back, by the notes of the judge (X.690, 8.1; 8.9 to 8.14).
 ghost use Rattle.std.specs.Prelude.{[], ◌∷◌, ◌<◌, ◌≤◌, length};
 ghost use Rattle.table.specs.Reading.{table_in, count_in};
-ghost use Rattle.records.specs.Entries.{unpacked};
+ghost use Rattle.records.specs.Descriptors.{described};
 ghost use Rattle.coding.specs.Form.{form_at};
 ghost use Rattle.coding.specs.Judging.{judge_value};
 ghost use Rattle.writer.specs.Notes.{NotedRow};
@@ -9,7 +9,8 @@ ghost use Rattle.writer.specs.Putting.{Fits, IsPut, Puts, PutBy};
 
 use crate::{contents, frame, node};
 use checker::passed::Passed;
-use records::entry::{parts, unpack, whole};
+use records::descriptor::{describe, parts};
+use records::entry::whole;
 
 // Where values end, and where what was put of them ends in the buffer.
 #[derive(Clone, Copy, Debug, PartialEq, Eq)]
@@ -28,13 +29,13 @@ fn put_members(
     buf: &mut [u8],
     to: usize,
 ) -> Placed
-    requires { Puts table.now.octets.now v.now notes.now (unpacked w) p to buf.old }
-    ensures { (x : Puts table.now.octets.now v.now notes.now (unpacked w) p to buf.old) → PutBy x buf.new result }
+    requires { Puts table.now.octets.now v.now notes.now (described w) p to buf.old }
+    ensures { (x : Puts table.now.octets.now v.now notes.now (described w) p to buf.old) → PutBy x buf.new result }
 {
     // Taken out once: the loop then has them in registers.
     let octets = table.octets;
     let index = table.index;
-    let e = unpack(w);
+    let e = describe(w);
     let s = parts(octets, e);
     let n = node::count(e, v, p);
     let mut at = node::start(e, v, p);
@@ -44,7 +45,7 @@ fn put_members(
             continue;
         };
         let x = index[t];
-        let r = unpack(x);
+        let r = describe(x);
         let q = at + 3;
         let size = if r.simple {
             contents::size(r.kind, v, q)

@@ -1,6 +1,5 @@
 -- A shaped record has its head, and its kind.
 use Rattle.std.proofs.Common.{refl, ◌∙◌, arith}
-use Rattle.kinds.proofs.Same.{octet_back}
 use Rattle.records.specs.Entries.{entry_at}
 use Rattle.records.proofs.Entries.{heads, kind_shaped}
 use Rattle.checker.proofs.index.entry.Goals as goal
@@ -25,4 +24,4 @@ unfolding entry_at
 returns c =
     let k = c.unwrap-kind.result in
     let q = (c.of.ensures k).0 c.unwrap-kind.ensures in
-    c.pack.ensures ∙ rw (← q, octet_back k, c.outermost-code.ensures, c.explicit.ensures, c.constructed-simple.ensures) refl
+    c.pack.ensures ∙ rw (c.octet.ensures, c.outermost-code.ensures, c.explicit.ensures, c.constructed-simple.ensures, q) refl

@@ -6,10 +6,10 @@ use Rattle.records.proofs.Entries.{entered_span}
 use Rattle.checker.proofs.references.names_beyond.Goals as goal
 
 pub returns-then-e : goal.returns-then-e
-returns-then-e c = λ r x. none_named x _ c.if-e.true
+returns-then-e c = λ r x. none_named x.entered _ c.if-e.true
 
 pub dangling-requires : goal.dangling-requires
 dangling-requires c = rw c.parts.ensures (near_span _ _ _ (λ i. omega (arith, c.type_inv.table i)) (omega arith))
 
 pub returns : goal.returns
-returns c = λ r x. c.dangling.ensures ∙ ap (any _) (rw c.parts.ensures (entered_span x))
+returns c = λ r x. c.dangling.ensures ∙ ap (any _) (rw c.parts.ensures (entered_span x.entered))

@@ -20,44 +20,44 @@ use Rattle.reader.proofs.judge.+judge_members_judge_value.Goals.{judge_value-the
 
 pub judge_members-node_size-total-requires : goal.judge_members-node_size-total-requires
 judge_members-node_size-total-requires t c =
-    omega (arith, count_few (setting_of c.args.table.now c.requires c.unpack-e.ensures c.parts-s.ensures))
+    omega (arith, count_few (setting_of c.args.table.now c.requires c.describe-e.ensures c.parts-s.ensures))
 
 pub judge_members-loop-end-init : goal.judge_members-loop-end-init
 judge_members-loop-end-init t c =
-    record { low = omega arith; so_far = judging_first (setting_of c.args.table.now c.requires c.unpack-e.ensures c.parts-s.ensures) _ c.node_size-total.ensures _ _ _ c.requires.some }
+    record { low = omega arith; so_far = judging_first (setting_of c.args.table.now c.requires c.describe-e.ensures c.parts-s.ensures) _ c.node_size-total.ensures _ _ _ c.requires.some }
 
 pub judge_members-next-requires : goal.judge_members-next-requires
 judge_members-next-requires t c =
-    (judging_sound (setting_of c.args.table.now c.requires c.unpack-e.ensures c.parts-s.ensures) c.loop-end.invariant.so_far, c.requires.holds)
+    (judging_sound (setting_of c.args.table.now c.requires c.describe-e.ensures c.parts-s.ensures) c.loop-end.invariant.so_far, c.requires.holds)
 
 pub judge_members-returns-in-Ok-Some : goal.judge_members-returns-in-Ok-Some
 judge_members-returns-in-Ok-Some t c =
     let l = c.loop-end.invariant in
-    let P = turn_of c.args.table.now c.requires c.unpack-e.ensures c.parts-s.ensures (λ i. omega (arith, c.type_inv.m i)) l.low l.so_far c.next.ensures in
+    let P = turn_of c.args.table.now c.requires c.describe-e.ensures c.parts-s.ensures (λ i. omega (arith, c.type_inv.m i)) l.low l.so_far c.next.ensures in
     judged_over P _ (rw c.in-Ok-Some.field-0-is at c.in-Ok-Some.is)
 
 pub judge_members-returns-in-Err : goal.judge_members-returns-in-Err
 judge_members-returns-in-Err t c =
     let l = c.loop-end.invariant in
-    let P = turn_of c.args.table.now c.requires c.unpack-e.ensures c.parts-s.ensures (λ i. omega (arith, c.type_inv.m i)) l.low l.so_far c.next.ensures in
+    let P = turn_of c.args.table.now c.requires c.describe-e.ensures c.parts-s.ensures (λ i. omega (arith, c.type_inv.m i)) l.low l.so_far c.next.ensures in
     judged_stopped P _ c.in-Err.is
 
 pub judge_members-in_turn-requires : goal.judge_members-in_turn-requires
 judge_members-in_turn-requires t c =
     let l = c.loop-end.invariant in
-    let P = turn_of c.args.table.now c.requires c.unpack-e.ensures c.parts-s.ensures (λ i. omega (arith, c.type_inv.m i)) l.low l.so_far c.next.ensures in
+    let P = turn_of c.args.table.now c.requires c.describe-e.ensures c.parts-s.ensures (λ i. omega (arith, c.type_inv.m i)) l.low l.so_far c.next.ensures in
     turn_asks P (rw c.in-Ok-None.field-0-is at c.in-Ok-None.is)
 
 pub judge_members-returns-in-Err-search : goal.judge_members-returns-in-Err-search
 judge_members-returns-in-Err-search t c =
     let l = c.loop-end.invariant in
-    let P = turn_of c.args.table.now c.requires c.unpack-e.ensures c.parts-s.ensures (λ i. omega (arith, c.type_inv.m i)) l.low l.so_far c.next.ensures in
+    let P = turn_of c.args.table.now c.requires c.describe-e.ensures c.parts-s.ensures (λ i. omega (arith, c.type_inv.m i)) l.low l.so_far c.next.ensures in
     judged_unfit P (rw c.in-Ok-None.field-0-is at c.in-Ok-None.is) _ _ _ c.search.ensures c.in-Err-search.is
 
 pub judge_members-returns-then-level-x : goal.judge_members-returns-then-level-x
 judge_members-returns-then-level-x t c =
     let l = c.loop-end.invariant in
-    let P = turn_of c.args.table.now c.requires c.unpack-e.ensures c.parts-s.ensures (λ i. omega (arith, c.type_inv.m i)) l.low l.so_far c.next.ensures in
+    let P = turn_of c.args.table.now c.requires c.describe-e.ensures c.parts-s.ensures (λ i. omega (arith, c.type_inv.m i)) l.low l.so_far c.next.ensures in
     let X = comes_of P (rw c.in-Ok-None.field-0-is at c.in-Ok-None.is) c.match-in_turn.x c.match-in_turn.way' (elim c.match-in_turn.branch [
       | judge_members-in-Some w ↦ rw (w.way'-is, w.x-is) ((c.in_turn.ensures _ w.in-Some.is).2 _)
       | judge_members-in-None+in-Ok w ↦ rw (w.way'-is, w.x-is) (rw (part_to_end c.args.m.now c.loop-end.at, w.in-Ok.is) at w.search.ensures)
@@ -67,7 +67,7 @@ judge_members-returns-then-level-x t c =
 pub judge_members-bounds-came-x : goal.judge_members-bounds-came-x
 judge_members-bounds-came-x t c =
     let l = c.loop-end.invariant in
-    let P = turn_of c.args.table.now c.requires c.unpack-e.ensures c.parts-s.ensures (λ i. omega (arith, c.type_inv.m i)) l.low l.so_far c.next.ensures in
+    let P = turn_of c.args.table.now c.requires c.describe-e.ensures c.parts-s.ensures (λ i. omega (arith, c.type_inv.m i)) l.low l.so_far c.next.ensures in
     let X = comes_of P (rw c.in-Ok-None.field-0-is at c.in-Ok-None.is) c.match-in_turn.x c.match-in_turn.way' (elim c.match-in_turn.branch [
       | judge_members-in-Some w ↦ rw (w.way'-is, w.x-is) ((c.in_turn.ensures _ w.in-Some.is).2 _)
       | judge_members-in-None+in-Ok w ↦ rw (w.way'-is, w.x-is) (rw (part_to_end c.args.m.now c.loop-end.at, w.in-Ok.is) at w.search.ensures)
@@ -80,7 +80,7 @@ judge_members-offset_bounds-came-x t c = omega (arith, judge_members-bounds-came
 pub judge_members-overflow_add-j : goal.judge_members-overflow_add-j
 judge_members-overflow_add-j t c =
     let l = c.loop-end.invariant in
-    let P = turn_of c.args.table.now c.requires c.unpack-e.ensures c.parts-s.ensures (λ i. omega (arith, c.type_inv.m i)) l.low l.so_far c.next.ensures in
+    let P = turn_of c.args.table.now c.requires c.describe-e.ensures c.parts-s.ensures (λ i. omega (arith, c.type_inv.m i)) l.low l.so_far c.next.ensures in
     let X = comes_of P (rw c.in-Ok-None.field-0-is at c.in-Ok-None.is) c.match-in_turn.x c.match-in_turn.way' (elim c.match-in_turn.branch [
       | judge_members-in-Some w ↦ rw (w.way'-is, w.x-is) ((c.in_turn.ensures _ w.in-Some.is).2 _)
       | judge_members-in-None+in-Ok w ↦ rw (w.way'-is, w.x-is) (rw (part_to_end c.args.m.now c.loop-end.at, w.in-Ok.is) at w.search.ensures)
@@ -90,7 +90,7 @@ judge_members-overflow_add-j t c =
 pub judge_members-bounds-table-x : goal.judge_members-bounds-table-x
 judge_members-bounds-table-x t c =
     let l = c.loop-end.invariant in
-    let P = turn_of c.args.table.now c.requires c.unpack-e.ensures c.parts-s.ensures (λ i. omega (arith, c.type_inv.m i)) l.low l.so_far c.next.ensures in
+    let P = turn_of c.args.table.now c.requires c.describe-e.ensures c.parts-s.ensures (λ i. omega (arith, c.type_inv.m i)) l.low l.so_far c.next.ensures in
     let X = comes_of P (rw c.in-Ok-None.field-0-is at c.in-Ok-None.is) c.match-in_turn.x c.match-in_turn.way' (elim c.match-in_turn.branch [
       | judge_members-in-Some w ↦ rw (w.way'-is, w.x-is) ((c.in_turn.ensures _ w.in-Some.is).2 _)
       | judge_members-in-None+in-Ok w ↦ rw (w.way'-is, w.x-is) (rw (part_to_end c.args.m.now c.loop-end.at, w.in-Ok.is) at w.search.ensures)
@@ -103,7 +103,7 @@ judge_members-offset_bounds-table-x t c = omega (arith, judge_members-bounds-tab
 pub judge_members-overflow_add-at : goal.judge_members-overflow_add-at
 judge_members-overflow_add-at t c =
     let l = c.loop-end.invariant in
-    let P = turn_of c.args.table.now c.requires c.unpack-e.ensures c.parts-s.ensures (λ i. omega (arith, c.type_inv.m i)) l.low l.so_far c.next.ensures in
+    let P = turn_of c.args.table.now c.requires c.describe-e.ensures c.parts-s.ensures (λ i. omega (arith, c.type_inv.m i)) l.low l.so_far c.next.ensures in
     let X = comes_of P (rw c.in-Ok-None.field-0-is at c.in-Ok-None.is) c.match-in_turn.x c.match-in_turn.way' (elim c.match-in_turn.branch [
       | judge_members-in-Some w ↦ rw (w.way'-is, w.x-is) ((c.in_turn.ensures _ w.in-Some.is).2 _)
       | judge_members-in-None+in-Ok w ↦ rw (w.way'-is, w.x-is) (rw (part_to_end c.args.m.now c.loop-end.at, w.in-Ok.is) at w.search.ensures)
@@ -113,7 +113,7 @@ judge_members-overflow_add-at t c =
 pub judge_members-judge_value-requires : goal.judge_members-judge_value-requires
 judge_members-judge_value-requires t c =
     let l = c.loop-end.invariant in
-    let P = turn_of c.args.table.now c.requires c.unpack-e.ensures c.parts-s.ensures (λ i. omega (arith, c.type_inv.m i)) l.low l.so_far c.next.ensures in
+    let P = turn_of c.args.table.now c.requires c.describe-e.ensures c.parts-s.ensures (λ i. omega (arith, c.type_inv.m i)) l.low l.so_far c.next.ensures in
     let X = comes_of P (rw c.in-Ok-None.field-0-is at c.in-Ok-None.is) c.match-in_turn.x c.match-in_turn.way' (elim c.match-in_turn.branch [
       | judge_members-in-Some w ↦ rw (w.way'-is, w.x-is) ((c.in_turn.ensures _ w.in-Some.is).2 _)
       | judge_members-in-None+in-Ok w ↦ rw (w.way'-is, w.x-is) (rw (part_to_end c.args.m.now c.loop-end.at, w.in-Ok.is) at w.search.ensures)
@@ -131,7 +131,7 @@ judge_members-judge_value-requires t c =
 pub judge_members-returns-in_err-y : goal.judge_members-returns-in_err-y
 judge_members-returns-in_err-y t c =
     let l = c.loop-end.invariant in
-    let P = turn_of c.args.table.now c.requires c.unpack-e.ensures c.parts-s.ensures (λ i. omega (arith, c.type_inv.m i)) l.low l.so_far c.next.ensures in
+    let P = turn_of c.args.table.now c.requires c.describe-e.ensures c.parts-s.ensures (λ i. omega (arith, c.type_inv.m i)) l.low l.so_far c.next.ensures in
     let X = comes_of P (rw c.in-Ok-None.field-0-is at c.in-Ok-None.is) c.match-in_turn.x c.match-in_turn.way' (elim c.match-in_turn.branch [
       | judge_members-in-Some w ↦ rw (w.way'-is, w.x-is) ((c.in_turn.ensures _ w.in-Some.is).2 _)
       | judge_members-in-None+in-Ok w ↦ rw (w.way'-is, w.x-is) (rw (part_to_end c.args.m.now c.loop-end.at, w.in-Ok.is) at w.search.ensures)
@@ -143,7 +143,7 @@ judge_members-returns-in_err-y t c =
 pub judge_members-overflow_add-y : goal.judge_members-overflow_add-y
 judge_members-overflow_add-y t c =
     let l = c.loop-end.invariant in
-    let P = turn_of c.args.table.now c.requires c.unpack-e.ensures c.parts-s.ensures (λ i. omega (arith, c.type_inv.m i)) l.low l.so_far c.next.ensures in
+    let P = turn_of c.args.table.now c.requires c.describe-e.ensures c.parts-s.ensures (λ i. omega (arith, c.type_inv.m i)) l.low l.so_far c.next.ensures in
     let X = comes_of P (rw c.in-Ok-None.field-0-is at c.in-Ok-None.is) c.match-in_turn.x c.match-in_turn.way' (elim c.match-in_turn.branch [
       | judge_members-in-Some w ↦ rw (w.way'-is, w.x-is) ((c.in_turn.ensures _ w.in-Some.is).2 _)
       | judge_members-in-None+in-Ok w ↦ rw (w.way'-is, w.x-is) (rw (part_to_end c.args.m.now c.loop-end.at, w.in-Ok.is) at w.search.ensures)
@@ -154,7 +154,7 @@ judge_members-overflow_add-y t c =
 pub judge_members-grow-total-requires : goal.judge_members-grow-total-requires
 judge_members-grow-total-requires t c =
     let l = c.loop-end.invariant in
-    let P = turn_of c.args.table.now c.requires c.unpack-e.ensures c.parts-s.ensures (λ i. omega (arith, c.type_inv.m i)) l.low l.so_far c.next.ensures in
+    let P = turn_of c.args.table.now c.requires c.describe-e.ensures c.parts-s.ensures (λ i. omega (arith, c.type_inv.m i)) l.low l.so_far c.next.ensures in
     let X = comes_of P (rw c.in-Ok-None.field-0-is at c.in-Ok-None.is) c.match-in_turn.x c.match-in_turn.way' (elim c.match-in_turn.branch [
       | judge_members-in-Some w ↦ rw (w.way'-is, w.x-is) ((c.in_turn.ensures _ w.in-Some.is).2 _)
       | judge_members-in-None+in-Ok w ↦ rw (w.way'-is, w.x-is) (rw (part_to_end c.args.m.now c.loop-end.at, w.in-Ok.is) at w.search.ensures)
@@ -165,7 +165,7 @@ judge_members-grow-total-requires t c =
 pub judge_members-returns-then-holds_one : goal.judge_members-returns-then-holds_one
 judge_members-returns-then-holds_one t c =
     let l = c.loop-end.invariant in
-    let P = turn_of c.args.table.now c.requires c.unpack-e.ensures c.parts-s.ensures (λ i. omega (arith, c.type_inv.m i)) l.low l.so_far c.next.ensures in
+    let P = turn_of c.args.table.now c.requires c.describe-e.ensures c.parts-s.ensures (λ i. omega (arith, c.type_inv.m i)) l.low l.so_far c.next.ensures in
     let X = comes_of P (rw c.in-Ok-None.field-0-is at c.in-Ok-None.is) c.match-in_turn.x c.match-in_turn.way' (elim c.match-in_turn.branch [
       | judge_members-in-Some w ↦ rw (w.way'-is, w.x-is) ((c.in_turn.ensures _ w.in-Some.is).2 _)
       | judge_members-in-None+in-Ok w ↦ rw (w.way'-is, w.x-is) (rw (part_to_end c.args.m.now c.loop-end.at, w.in-Ok.is) at w.search.ensures)
@@ -176,7 +176,7 @@ judge_members-returns-then-holds_one t c =
 pub judge_members-loop-end-smaller : goal.judge_members-loop-end-smaller
 judge_members-loop-end-smaller t c =
     let l = c.loop-end.invariant in
-    let P = turn_of c.args.table.now c.requires c.unpack-e.ensures c.parts-s.ensures (λ i. omega (arith, c.type_inv.m i)) l.low l.so_far c.next.ensures in
+    let P = turn_of c.args.table.now c.requires c.describe-e.ensures c.parts-s.ensures (λ i. omega (arith, c.type_inv.m i)) l.low l.so_far c.next.ensures in
     let X = comes_of P (rw c.in-Ok-None.field-0-is at c.in-Ok-None.is) c.match-in_turn.x c.match-in_turn.way' (elim c.match-in_turn.branch [
       | judge_members-in-Some w ↦ rw (w.way'-is, w.x-is) ((c.in_turn.ensures _ w.in-Some.is).2 _)
       | judge_members-in-None+in-Ok w ↦ rw (w.way'-is, w.x-is) (rw (part_to_end c.args.m.now c.loop-end.at, w.in-Ok.is) at w.search.ensures)
@@ -188,7 +188,7 @@ judge_members-loop-end-smaller t c =
 pub judge_members-loop-end-preserved : goal.judge_members-loop-end-preserved
 judge_members-loop-end-preserved t c =
     let l = c.loop-end.invariant in
-    let P = turn_of c.args.table.now c.requires c.unpack-e.ensures c.parts-s.ensures (λ i. omega (arith, c.type_inv.m i)) l.low l.so_far c.next.ensures in
+    let P = turn_of c.args.table.now c.requires c.describe-e.ensures c.parts-s.ensures (λ i. omega (arith, c.type_inv.m i)) l.low l.so_far c.next.ensures in
     let X = comes_of P (rw c.in-Ok-None.field-0-is at c.in-Ok-None.is) c.match-in_turn.x c.match-in_turn.way' (elim c.match-in_turn.branch [
       | judge_members-in-Some w ↦ rw (w.way'-is, w.x-is) ((c.in_turn.ensures _ w.in-Some.is).2 _)
       | judge_members-in-None+in-Ok w ↦ rw (w.way'-is, w.x-is) (rw (part_to_end c.args.m.now c.loop-end.at, w.in-Ok.is) at w.search.ensures)
@@ -198,8 +198,8 @@ judge_members-loop-end-preserved t c =
       low = value_low V c.in_ok-y.y.end c.in_ok-y.y.size c.in_ok-y.was;
       so_far = judged_turn V c.in_ok-y.y.end c.in_ok-y.y.size c.in_ok-y.was _ c.grow-total.ensures _ c.holds_one.ensures c.if-holds_one.false _
           (elim c.if-eq.branch [
-            | judge_members-then-eq x ↦ inl (is_kind c.unpack-e.result.kind Set c.eq.ensures x.if-eq.true, x.came-is)
-            | judge_members-else-eq x ↦ inr (not_kind c.unpack-e.result.kind Set c.eq.ensures x.if-eq.false, x.came-is)
+            | judge_members-then-eq x ↦ inl (is_kind c.describe-e.result.kind Set c.eq.ensures x.if-eq.true, x.came-is)
+            | judge_members-else-eq x ↦ inr (not_kind c.describe-e.result.kind Set c.eq.ensures x.if-eq.false, x.came-is)
           ]);
     }
 
@@ -215,9 +215,9 @@ pub judge_value-returns-in-Err : goal.judge_value-returns-in-Err
 judge_value-returns-in-Err t c =
     let q = c.requires in
     let p = c.args.table.now in
-    let I = item_of p q c.unpack-e.ensures (λ i. omega (arith, c.type_inv.m i)) c.if-e-gt0.notes c.if-e-gt0.x (elim c.if-e-gt0.branch [
+    let I = item_of p q c.describe-e.ensures (λ i. omega (arith, c.type_inv.m i)) c.if-e-gt0.notes c.if-e-gt0.x (elim c.if-e-gt0.branch [
       | judge_value-then-e-gt0+in_ok-x x ↦ rw (x.notes-is, x.x-is) (under_tags (ready_by p) q.is c.args.m.now c.args.at _ x.«open».result x.«open».ensures _ x.in_ok-x.was)
-      | judge_value-else-e-gt0 x ↦ rw (x.notes-is, x.x-is) (under_bare (ready_by p) q.is _ c.unpack-e.ensures c.args.m.now c.args.at c.args.from x.if-e-gt0.false q.headed _)
+      | judge_value-else-e-gt0 x ↦ rw (x.notes-is, x.x-is) (under_bare (ready_by p) q.is _ c.describe-e.ensures c.args.m.now c.args.at c.args.from x.if-e-gt0.false q.headed _)
     ]) in
     extent_refused I c.extent.result c.extent.ensures c.in-Err.cause c.in-Err.is
 
@@ -225,9 +225,9 @@ pub judge_value-slice_bounds-c-count : goal.judge_value-slice_bounds-c-count
 judge_value-slice_bounds-c-count t c =
     let q = c.requires in
     let p = c.args.table.now in
-    let I = item_of p q c.unpack-e.ensures (λ i. omega (arith, c.type_inv.m i)) c.if-e-gt0.notes c.if-e-gt0.x (elim c.if-e-gt0.branch [
+    let I = item_of p q c.describe-e.ensures (λ i. omega (arith, c.type_inv.m i)) c.if-e-gt0.notes c.if-e-gt0.x (elim c.if-e-gt0.branch [
       | judge_value-then-e-gt0+in_ok-x x ↦ rw (x.notes-is, x.x-is) (under_tags (ready_by p) q.is c.args.m.now c.args.at _ x.«open».result x.«open».ensures _ x.in_ok-x.was)
-      | judge_value-else-e-gt0 x ↦ rw (x.notes-is, x.x-is) (under_bare (ready_by p) q.is _ c.unpack-e.ensures c.args.m.now c.args.at c.args.from x.if-e-gt0.false q.headed _)
+      | judge_value-else-e-gt0 x ↦ rw (x.notes-is, x.x-is) (under_bare (ready_by p) q.is _ c.describe-e.ensures c.args.m.now c.args.at c.args.from x.if-e-gt0.false q.headed _)
     ]) in
     let F = filling_of I c.extent.ensures c.in-Ok.is in
     (contents_within F).0
@@ -236,9 +236,9 @@ pub judge_value-slice_bounds-c-end : goal.judge_value-slice_bounds-c-end
 judge_value-slice_bounds-c-end t c =
     let q = c.requires in
     let p = c.args.table.now in
-    let I = item_of p q c.unpack-e.ensures (λ i. omega (arith, c.type_inv.m i)) c.if-e-gt0.notes c.if-e-gt0.x (elim c.if-e-gt0.branch [
+    let I = item_of p q c.describe-e.ensures (λ i. omega (arith, c.type_inv.m i)) c.if-e-gt0.notes c.if-e-gt0.x (elim c.if-e-gt0.branch [
       | judge_value-then-e-gt0+in_ok-x x ↦ rw (x.notes-is, x.x-is) (under_tags (ready_by p) q.is c.args.m.now c.args.at _ x.«open».result x.«open».ensures _ x.in_ok-x.was)
-      | judge_value-else-e-gt0 x ↦ rw (x.notes-is, x.x-is) (under_bare (ready_by p) q.is _ c.unpack-e.ensures c.args.m.now c.args.at c.args.from x.if-e-gt0.false q.headed _)
+      | judge_value-else-e-gt0 x ↦ rw (x.notes-is, x.x-is) (under_bare (ready_by p) q.is _ c.describe-e.ensures c.args.m.now c.args.at c.args.from x.if-e-gt0.false q.headed _)
     ]) in
     let F = filling_of I c.extent.ensures c.in-Ok.is in
     (contents_within F).1
@@ -250,9 +250,9 @@ pub judge_value-overflow_sub-behind : goal.judge_value-overflow_sub-behind
 judge_value-overflow_sub-behind t c =
     let q = c.requires in
     let p = c.args.table.now in
-    let I = item_of p q c.unpack-e.ensures (λ i. omega (arith, c.type_inv.m i)) c.if-e-gt0.notes c.if-e-gt0.x (elim c.if-e-gt0.branch [
+    let I = item_of p q c.describe-e.ensures (λ i. omega (arith, c.type_inv.m i)) c.if-e-gt0.notes c.if-e-gt0.x (elim c.if-e-gt0.branch [
       | judge_value-then-e-gt0+in_ok-x x ↦ rw (x.notes-is, x.x-is) (under_tags (ready_by p) q.is c.args.m.now c.args.at _ x.«open».result x.«open».ensures _ x.in_ok-x.was)
-      | judge_value-else-e-gt0 x ↦ rw (x.notes-is, x.x-is) (under_bare (ready_by p) q.is _ c.unpack-e.ensures c.args.m.now c.args.at c.args.from x.if-e-gt0.false q.headed _)
+      | judge_value-else-e-gt0 x ↦ rw (x.notes-is, x.x-is) (under_bare (ready_by p) q.is _ c.describe-e.ensures c.args.m.now c.args.at c.args.from x.if-e-gt0.false q.headed _)
     ]) in
     let F = filling_of I c.extent.ensures c.in-Ok.is in
     (contents_within F).1
@@ -261,13 +261,13 @@ pub judge_value-judge_contents-requires : goal.judge_value-judge_contents-requir
 judge_value-judge_contents-requires t c =
     let q = c.requires in
     let p = c.args.table.now in
-    let I = item_of p q c.unpack-e.ensures (λ i. omega (arith, c.type_inv.m i)) c.if-e-gt0.notes c.if-e-gt0.x (elim c.if-e-gt0.branch [
+    let I = item_of p q c.describe-e.ensures (λ i. omega (arith, c.type_inv.m i)) c.if-e-gt0.notes c.if-e-gt0.x (elim c.if-e-gt0.branch [
       | judge_value-then-e-gt0+in_ok-x x ↦ rw (x.notes-is, x.x-is) (under_tags (ready_by p) q.is c.args.m.now c.args.at _ x.«open».result x.«open».ensures _ x.in_ok-x.was)
-      | judge_value-else-e-gt0 x ↦ rw (x.notes-is, x.x-is) (under_bare (ready_by p) q.is _ c.unpack-e.ensures c.args.m.now c.args.at c.args.from x.if-e-gt0.false q.headed _)
+      | judge_value-else-e-gt0 x ↦ rw (x.notes-is, x.x-is) (under_bare (ready_by p) q.is _ c.describe-e.ensures c.args.m.now c.args.at c.args.from x.if-e-gt0.false q.headed _)
     ]) in
     let F = filling_of I c.extent.ensures c.in-Ok.is in (
       table_in c.args.table.now.octets.now q.is.0,
-      rw c.unpack-e.ensures (its_entry (ready_by p) q.is),
+      rw c.describe-e.ensures (its_entry (ready_by p) q.is),
       leaf_kind_lem F c.if-e.true,
       contents_short F,
       omega (arith, q.short),
@@ -278,9 +278,9 @@ pub judge_value-returns-in_err-inside : goal.judge_value-returns-in_err-inside
 judge_value-returns-in_err-inside t c =
     let q = c.requires in
     let p = c.args.table.now in
-    let I = item_of p q c.unpack-e.ensures (λ i. omega (arith, c.type_inv.m i)) c.if-e-gt0.notes c.if-e-gt0.x (elim c.if-e-gt0.branch [
+    let I = item_of p q c.describe-e.ensures (λ i. omega (arith, c.type_inv.m i)) c.if-e-gt0.notes c.if-e-gt0.x (elim c.if-e-gt0.branch [
       | judge_value-then-e-gt0+in_ok-x x ↦ rw (x.notes-is, x.x-is) (under_tags (ready_by p) q.is c.args.m.now c.args.at _ x.«open».result x.«open».ensures _ x.in_ok-x.was)
-      | judge_value-else-e-gt0 x ↦ rw (x.notes-is, x.x-is) (under_bare (ready_by p) q.is _ c.unpack-e.ensures c.args.m.now c.args.at c.args.from x.if-e-gt0.false q.headed _)
+      | judge_value-else-e-gt0 x ↦ rw (x.notes-is, x.x-is) (under_bare (ready_by p) q.is _ c.describe-e.ensures c.args.m.now c.args.at c.args.from x.if-e-gt0.false q.headed _)
     ]) in
     let F = filling_of I c.extent.ensures c.in-Ok.is in
     let r = c.judge_contents in
@@ -292,9 +292,9 @@ pub judge_value-judge_members-requires : goal.judge_value-judge_members-requires
 judge_value-judge_members-requires t c =
     let q = c.requires in
     let p = c.args.table.now in
-    let I = item_of p q c.unpack-e.ensures (λ i. omega (arith, c.type_inv.m i)) c.if-e-gt0.notes c.if-e-gt0.x (elim c.if-e-gt0.branch [
+    let I = item_of p q c.describe-e.ensures (λ i. omega (arith, c.type_inv.m i)) c.if-e-gt0.notes c.if-e-gt0.x (elim c.if-e-gt0.branch [
       | judge_value-then-e-gt0+in_ok-x x ↦ rw (x.notes-is, x.x-is) (under_tags (ready_by p) q.is c.args.m.now c.args.at _ x.«open».result x.«open».ensures _ x.in_ok-x.was)
-      | judge_value-else-e-gt0 x ↦ rw (x.notes-is, x.x-is) (under_bare (ready_by p) q.is _ c.unpack-e.ensures c.args.m.now c.args.at c.args.from x.if-e-gt0.false q.headed _)
+      | judge_value-else-e-gt0 x ↦ rw (x.notes-is, x.x-is) (under_bare (ready_by p) q.is _ c.describe-e.ensures c.args.m.now c.args.at c.args.from x.if-e-gt0.false q.headed _)
     ]) in
     let F = filling_of I c.extent.ensures c.in-Ok.is in
     let n = c.if-e.false in
@@ -313,9 +313,9 @@ pub judge_value-overflow_add-result : goal.judge_value-overflow_add-result
 judge_value-overflow_add-result t c =
     let q = c.requires in
     let p = c.args.table.now in
-    let I = item_of p q c.unpack-e.ensures (λ i. omega (arith, c.type_inv.m i)) c.if-e-gt0.notes c.if-e-gt0.x (elim c.if-e-gt0.branch [
+    let I = item_of p q c.describe-e.ensures (λ i. omega (arith, c.type_inv.m i)) c.if-e-gt0.notes c.if-e-gt0.x (elim c.if-e-gt0.branch [
       | judge_value-then-e-gt0+in_ok-x x ↦ rw (x.notes-is, x.x-is) (under_tags (ready_by p) q.is c.args.m.now c.args.at _ x.«open».result x.«open».ensures _ x.in_ok-x.was)
-      | judge_value-else-e-gt0 x ↦ rw (x.notes-is, x.x-is) (under_bare (ready_by p) q.is _ c.unpack-e.ensures c.args.m.now c.args.at c.args.from x.if-e-gt0.false q.headed _)
+      | judge_value-else-e-gt0 x ↦ rw (x.notes-is, x.x-is) (under_bare (ready_by p) q.is _ c.describe-e.ensures c.args.m.now c.args.at c.args.from x.if-e-gt0.false q.headed _)
     ]) in
     let F = filling_of I c.extent.ensures c.in-Ok.is in
     let r = c.judge_members in
@@ -326,9 +326,9 @@ pub judge_value-returns-in-Err-judge_members : goal.judge_value-returns-in-Err-j
 judge_value-returns-in-Err-judge_members t c =
     let q = c.requires in
     let p = c.args.table.now in
-    let I = item_of p q c.unpack-e.ensures (λ i. omega (arith, c.type_inv.m i)) c.if-e-gt0.notes c.if-e-gt0.x (elim c.if-e-gt0.branch [
+    let I = item_of p q c.describe-e.ensures (λ i. omega (arith, c.type_inv.m i)) c.if-e-gt0.notes c.if-e-gt0.x (elim c.if-e-gt0.branch [
       | judge_value-then-e-gt0+in_ok-x x ↦ rw (x.notes-is, x.x-is) (under_tags (ready_by p) q.is c.args.m.now c.args.at _ x.«open».result x.«open».ensures _ x.in_ok-x.was)
-      | judge_value-else-e-gt0 x ↦ rw (x.notes-is, x.x-is) (under_bare (ready_by p) q.is _ c.unpack-e.ensures c.args.m.now c.args.at c.args.from x.if-e-gt0.false q.headed _)
+      | judge_value-else-e-gt0 x ↦ rw (x.notes-is, x.x-is) (under_bare (ready_by p) q.is _ c.describe-e.ensures c.args.m.now c.args.at c.args.from x.if-e-gt0.false q.headed _)
     ]) in
     let F = filling_of I c.extent.ensures c.in-Ok.is in
     let r = c.judge_members in
@@ -339,9 +339,9 @@ pub judge_value-overflow_add-over : goal.judge_value-overflow_add-over
 judge_value-overflow_add-over t c =
     let q = c.requires in
     let p = c.args.table.now in
-    let I = item_of p q c.unpack-e.ensures (λ i. omega (arith, c.type_inv.m i)) c.if-e-gt0.notes c.if-e-gt0.x (elim c.if-e-gt0.branch [
+    let I = item_of p q c.describe-e.ensures (λ i. omega (arith, c.type_inv.m i)) c.if-e-gt0.notes c.if-e-gt0.x (elim c.if-e-gt0.branch [
       | judge_value-then-e-gt0+in_ok-x x ↦ rw (x.notes-is, x.x-is) (under_tags (ready_by p) q.is c.args.m.now c.args.at _ x.«open».result x.«open».ensures _ x.in_ok-x.was)
-      | judge_value-else-e-gt0 x ↦ rw (x.notes-is, x.x-is) (under_bare (ready_by p) q.is _ c.unpack-e.ensures c.args.m.now c.args.at c.args.from x.if-e-gt0.false q.headed _)
+      | judge_value-else-e-gt0 x ↦ rw (x.notes-is, x.x-is) (under_bare (ready_by p) q.is _ c.describe-e.ensures c.args.m.now c.args.at c.args.from x.if-e-gt0.false q.headed _)
     ]) in
     let F = filling_of I c.extent.ensures c.in-Ok.is in
     let Z = ended_of I (c.in-Ok.y.start + c.if-e.inside.end) c.if-e.inside.size (elim c.if-e.branch [
@@ -354,9 +354,9 @@ pub judge_value-close-requires : goal.judge_value-close-requires
 judge_value-close-requires t c =
     let q = c.requires in
     let p = c.args.table.now in
-    let I = item_of p q c.unpack-e.ensures (λ i. omega (arith, c.type_inv.m i)) c.if-e-gt0.notes c.if-e-gt0.x (elim c.if-e-gt0.branch [
+    let I = item_of p q c.describe-e.ensures (λ i. omega (arith, c.type_inv.m i)) c.if-e-gt0.notes c.if-e-gt0.x (elim c.if-e-gt0.branch [
       | judge_value-then-e-gt0+in_ok-x x ↦ rw (x.notes-is, x.x-is) (under_tags (ready_by p) q.is c.args.m.now c.args.at _ x.«open».result x.«open».ensures _ x.in_ok-x.was)
-      | judge_value-else-e-gt0 x ↦ rw (x.notes-is, x.x-is) (under_bare (ready_by p) q.is _ c.unpack-e.ensures c.args.m.now c.args.at c.args.from x.if-e-gt0.false q.headed _)
+      | judge_value-else-e-gt0 x ↦ rw (x.notes-is, x.x-is) (under_bare (ready_by p) q.is _ c.describe-e.ensures c.args.m.now c.args.at c.args.from x.if-e-gt0.false q.headed _)
     ]) in
     let F = filling_of I c.extent.ensures c.in-Ok.is in
     let Z = ended_of I (c.in-Ok.y.start + c.if-e.inside.end) c.if-e.inside.size (elim c.if-e.branch [
@@ -369,9 +369,9 @@ pub judge_value-returns-then-e-gt0-2 : goal.judge_value-returns-then-e-gt0-2
 judge_value-returns-then-e-gt0-2 t c =
     let q = c.requires in
     let p = c.args.table.now in
-    let I = item_of p q c.unpack-e.ensures (λ i. omega (arith, c.type_inv.m i)) c.if-e-gt0.notes c.if-e-gt0.x (elim c.if-e-gt0.branch [
+    let I = item_of p q c.describe-e.ensures (λ i. omega (arith, c.type_inv.m i)) c.if-e-gt0.notes c.if-e-gt0.x (elim c.if-e-gt0.branch [
       | judge_value-then-e-gt0+in_ok-x x ↦ rw (x.notes-is, x.x-is) (under_tags (ready_by p) q.is c.args.m.now c.args.at _ x.«open».result x.«open».ensures _ x.in_ok-x.was)
-      | judge_value-else-e-gt0 x ↦ rw (x.notes-is, x.x-is) (under_bare (ready_by p) q.is _ c.unpack-e.ensures c.args.m.now c.args.at c.args.from x.if-e-gt0.false q.headed _)
+      | judge_value-else-e-gt0 x ↦ rw (x.notes-is, x.x-is) (under_bare (ready_by p) q.is _ c.describe-e.ensures c.args.m.now c.args.at c.args.from x.if-e-gt0.false q.headed _)
     ]) in
     let F = filling_of I c.extent.ensures c.in-Ok.is in
     let Z = ended_of I (c.in-Ok.y.start + c.if-e.inside.end) c.if-e.inside.size (elim c.if-e.branch [
@@ -384,9 +384,9 @@ pub judge_value-returns : goal.judge_value-returns
 judge_value-returns t c =
     let q = c.requires in
     let p = c.args.table.now in
-    let I = item_of p q c.unpack-e.ensures (λ i. omega (arith, c.type_inv.m i)) c.if-e-gt0.notes c.if-e-gt0.x (elim c.if-e-gt0.branch [
+    let I = item_of p q c.describe-e.ensures (λ i. omega (arith, c.type_inv.m i)) c.if-e-gt0.notes c.if-e-gt0.x (elim c.if-e-gt0.branch [
       | judge_value-then-e-gt0+in_ok-x x ↦ rw (x.notes-is, x.x-is) (under_tags (ready_by p) q.is c.args.m.now c.args.at _ x.«open».result x.«open».ensures _ x.in_ok-x.was)
-      | judge_value-else-e-gt0 x ↦ rw (x.notes-is, x.x-is) (under_bare (ready_by p) q.is _ c.unpack-e.ensures c.args.m.now c.args.at c.args.from x.if-e-gt0.false q.headed _)
+      | judge_value-else-e-gt0 x ↦ rw (x.notes-is, x.x-is) (under_bare (ready_by p) q.is _ c.describe-e.ensures c.args.m.now c.args.at c.args.from x.if-e-gt0.false q.headed _)
     ]) in
     let F = filling_of I c.extent.ensures c.in-Ok.is in
     let Z = ended_of I (c.in-Ok.y.start + c.if-e.inside.end) c.if-e.inside.size (elim c.if-e.branch [

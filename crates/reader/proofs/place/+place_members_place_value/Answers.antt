@@ -8,7 +8,7 @@ use Rattle.table.specs.Reading.{table_in}
 use Rattle.kinds.specs.Kinds.{octet_of}
 use Rattle.kinds.specs.declared.Kind.TheVariants.{Set, Choice}
 use Rattle.kinds.proofs.Same.{is_kind, not_kind, is_other, not_other}
-use Rattle.records.specs.declared.entry.Entry.{Entry}
+use Rattle.records.specs.declared.descriptor.Descriptor.{Descriptor}
 use Rattle.checker.proofs.Ready.{ready_by}
 use Rattle.reader.specs.Items.{inside}
 use Rattle.reader.specs.Sought.{held}
@@ -33,17 +33,17 @@ use Rattle.reader.proofs.place.+place_members_place_value.Goals.{place_value-the
 pub place_members-locate-last-requires : goal.place_members-locate-last-requires
 place_members-locate-last-requires t c =
     let p = c.requires in
-    (p.known, ap (λ (e : Entry). octet_of e.kind) (sym c.unpack-e.ensures) ∙ (is_kind c.unpack-e.result.kind Set c.eq.ensures c.if-eq.true), p.short, refl)
+    (p.known, ap (λ (e : Descriptor). octet_of e.kind) (sym c.describe-e.ensures) ∙ (is_kind c.describe-e.result.kind Set c.eq.ensures c.if-eq.true), p.short, refl)
 
 -- what is known before the node is begun
 given : (t : ℕ) (c : place_members-After-parts-s t)
-    → Given c.args.table.now.octets.now c.args.table.now.index.now c.args.w c.args.m.now c.args.indefinite c.args.buf.now c.args.to c.unpack-e.result c.parts-s.result
+    → Given c.args.table.now.octets.now c.args.table.now.index.now c.args.w c.args.m.now c.args.indefinite c.args.buf.now c.args.to c.describe-e.result c.parts-s.result
 given t c =
     record {
       ready = ready_by c.args.table.now;
       asked = c.requires;
       octets = λ k. omega (arith, c.type_inv.m k);
-      entry = c.unpack-e.ensures;
+      entry = c.describe-e.ensures;
       span = c.parts-s.ensures;
     }
 
@@ -57,47 +57,47 @@ place_members-loop-began-init t c =
     let P : (ms : List Member) → held a.table.now.octets.now a.w ≡ inside (Set ms) → Spotted (table_in a.table.now.octets.now) ms a.indefinite a.m.now c.if-eq.began c.if-eq.last
     = elim c.if-eq.branch [
       | place_members-then-eq w ↦ rw (w.began-is, w.last-is) w.locate-last.ensures
-      | place_members-else-eq w ↦ λ ms q. absurd (no_members G (not_kind c.unpack-e.result.kind Set c.eq.ensures w.if-eq.false) ms q)
+      | place_members-else-eq w ↦ λ ms q. absurd (no_members G (not_kind c.describe-e.result.kind Set c.eq.ensures w.if-eq.false) ms q)
     ] in
-    let X : Started a.table.now.octets.now a.table.now.index.now a.w a.m.now a.indefinite a.buf.now a.to c.unpack-e.result c.parts-s.result c.if-eq.began c.if-eq.last
+    let X : Started a.table.now.octets.now a.table.now.index.now a.w a.m.now a.indefinite a.buf.now a.to c.describe-e.result c.parts-s.result c.if-eq.began c.if-eq.last
     c.begin-next.new.buf = record { given = G; spotted = P; opening = c.begin-next.ensures.1 } in
     record { started = X; state = state_first X _ c.begin-next.ensures.0 }
 
 pub place_members-following-requires : goal.place_members-following-requires
 place_members-following-requires t c =
     let v = c.loop-began.invariant in
-    (set_low v.started v.state (is_kind c.unpack-e.result.kind Set c.eq-in-loop-began.ensures c.if-eq-2.true), its_few v.started.given)
+    (set_low v.started v.state (is_kind c.describe-e.result.kind Set c.eq-in-loop-began.ensures c.if-eq-2.true), its_few v.started.given)
 
 pub place_members-put_absent-requires : goal.place_members-put_absent-requires
 place_members-put_absent-requires t c =
     let v = c.loop-began.invariant in
-    set_room v.started v.state (is_kind c.unpack-e.result.kind Set c.eq-in-loop-began.ensures c.if-eq-2.true) _ (omega arith)
+    set_room v.started v.state (is_kind c.describe-e.result.kind Set c.eq-in-loop-began.ensures c.if-eq-2.true) _ (omega arith)
 
 pub place_members-returns-in_default : goal.place_members-returns-in_default
 place_members-returns-in_default t c =
     let v = c.loop-began.invariant in
-    set_over v.started v.state (is_kind c.unpack-e.result.kind Set c.eq-in-loop-began.ensures c.if-eq-2.true) _ (rw c.in_default.is at c.following.ensures.0) c.put_absent.ensures refl
+    set_over v.started v.state (is_kind c.describe-e.result.kind Set c.eq-in-loop-began.ensures c.if-eq-2.true) _ (rw c.in_default.is at c.following.ensures.0) c.put_absent.ensures refl
 
 pub place_members-put_absent-requires-then-eq-2 : goal.place_members-put_absent-requires-then-eq-2
 place_members-put_absent-requires-then-eq-2 t c =
     let v = c.loop-began.invariant in
     let F = rw c.in-Some.is at c.following.ensures.0 in
-    set_room v.started v.state (is_kind c.unpack-e.result.kind Set c.eq-in-loop-began.ensures c.if-eq-2.true) _ F.most
+    set_room v.started v.state (is_kind c.describe-e.result.kind Set c.eq-in-loop-began.ensures c.if-eq-2.true) _ F.most
 
 pub place_members-finish-requires : goal.place_members-finish-requires
 place_members-finish-requires t c =
     let v = c.loop-began.invariant in
-    finish_room v.started v.state (not_kind c.unpack-e.result.kind Set c.eq-in-loop-began.ensures c.if-eq-2.false) _ c.holds_one.ensures c.if-not-holds_one.true _ c.is_over.ensures
+    finish_room v.started v.state (not_kind c.describe-e.result.kind Set c.eq-in-loop-began.ensures c.if-eq-2.false) _ c.holds_one.ensures c.if-not-holds_one.true _ c.is_over.ensures
 
 pub place_members-behind-requires : goal.place_members-behind-requires
 place_members-behind-requires t c =
     let v = c.loop-began.invariant in
-    omega (arith, other_low v.started v.state (not_kind c.unpack-e.result.kind Set c.eq-in-loop-began.ensures c.if-eq-2.false), c.requires.short)
+    omega (arith, other_low v.started v.state (not_kind c.describe-e.result.kind Set c.eq-in-loop-began.ensures c.if-eq-2.false), c.requires.short)
 
 pub place_members-returns-then-is_over : goal.place_members-returns-then-is_over
 place_members-returns-then-is_over t c =
     let v = c.loop-began.invariant in
-    other_over v.started v.state (not_kind c.unpack-e.result.kind Set c.eq-in-loop-began.ensures c.if-eq-2.false) _ c.holds_one.ensures c.if-not-holds_one.true _ c.is_over.ensures c.if-is_over.true c.finish.ensures c.behind.ensures
+    other_over v.started v.state (not_kind c.describe-e.result.kind Set c.eq-in-loop-began.ensures c.if-eq-2.false) _ c.holds_one.ensures c.if-not-holds_one.true _ c.is_over.ensures c.if-is_over.true c.finish.ensures c.behind.ensures
 
 -- the item that comes
 coming : (t : ℕ) (c : place_members-Joined-eq-2 t)
@@ -107,12 +107,12 @@ coming t c =
     let L = c.loop-began.invariant.state in
     elim c.if-eq-2.branch [
       | place_members-then-eq-2+in-Some w ↦
-          rw (w.buf-is, w.at-is, w.j-is) (set_comes X L (is_kind c.unpack-e.result.kind Set c.eq-in-loop-began.ensures w.if-eq-2.true) _ (rw w.in-Some.is at w.following.ensures.0) w.put_absent-then-eq-2.ensures
+          rw (w.buf-is, w.at-is, w.j-is) (set_comes X L (is_kind c.describe-e.result.kind Set c.eq-in-loop-began.ensures w.if-eq-2.true) _ (rw w.in-Some.is at w.following.ensures.0) w.put_absent-then-eq-2.ensures
           (λ z. omega (arith, rw w.in-Some.is at w.following.ensures.1)))
       | place_members-else-eq-2+then-not-holds_one+else-is_over w ↦
-          rw (w.buf-is, w.at-is, w.j-is) (other_comes X L (not_kind c.unpack-e.result.kind Set c.eq-in-loop-began.ensures w.if-eq-2.false) _ w.holds_one.ensures w.if-not-holds_one.true _ w.is_over.ensures w.if-is_over.false)
+          rw (w.buf-is, w.at-is, w.j-is) (other_comes X L (not_kind c.describe-e.result.kind Set c.eq-in-loop-began.ensures w.if-eq-2.false) _ w.holds_one.ensures w.if-not-holds_one.true _ w.is_over.ensures w.if-is_over.false)
       | place_members-else-eq-2+else-not-holds_one w ↦
-          rw (w.buf-is, w.at-is, w.j-is) (one_comes X L (not_kind c.unpack-e.result.kind Set c.eq-in-loop-began.ensures w.if-eq-2.false) _ w.holds_one.ensures w.if-not-holds_one.false)
+          rw (w.buf-is, w.at-is, w.j-is) (one_comes X L (not_kind c.describe-e.result.kind Set c.eq-in-loop-began.ensures w.if-eq-2.false) _ w.holds_one.ensures w.if-not-holds_one.false)
     ]
 
 pub place_members-in_turn-requires : goal.place_members-in_turn-requires
@@ -215,13 +215,13 @@ pub place_members-loop-began-smaller : goal.place_members-loop-began-smaller
 place_members-loop-began-smaller t c =
     let z = goal.at.place_members-loop-began-smaller t c in
     let R = chosen t z.Joined-in_turn (coming t z.Joined-eq-2) in
-    let less : octet_of c.unpack-e.result.kind ≡ 17 → c.loop-began.j ≤ c.if-eq-2.j = elim c.if-eq-2.branch [
+    let less : octet_of c.describe-e.result.kind ≡ 17 → c.loop-began.j ≤ c.if-eq-2.j = elim c.if-eq-2.branch [
       | place_members-then-eq-2+in-Some w ↦ λ z. let F = rw w.in-Some.is at w.following.ensures.0 in rw w.j-is F.least
-      | place_members-else-eq-2+then-not-holds_one+else-is_over w ↦ λ z. absurd ((not_kind c.unpack-e.result.kind Set c.eq-in-loop-began.ensures w.if-eq-2.false) z)
-      | place_members-else-eq-2+else-not-holds_one w ↦ λ z. absurd ((not_kind c.unpack-e.result.kind Set c.eq-in-loop-began.ensures w.if-eq-2.false) z)
+      | place_members-else-eq-2+then-not-holds_one+else-is_over w ↦ λ z. absurd ((not_kind c.describe-e.result.kind Set c.eq-in-loop-began.ensures w.if-eq-2.false) z)
+      | place_members-else-eq-2+else-not-holds_one w ↦ λ z. absurd ((not_kind c.describe-e.result.kind Set c.eq-in-loop-began.ensures w.if-eq-2.false) z)
     ] in
-    let same : (octet_of c.unpack-e.result.kind ≡ 17 → ⊥) → c.if-eq-2.at ≡ c.loop-began.at = elim c.if-eq-2.branch [
-      | place_members-then-eq-2+in-Some w ↦ λ n. absurd (n (is_kind c.unpack-e.result.kind Set c.eq-in-loop-began.ensures w.if-eq-2.true))
+    let same : (octet_of c.describe-e.result.kind ≡ 17 → ⊥) → c.if-eq-2.at ≡ c.loop-began.at = elim c.if-eq-2.branch [
+      | place_members-then-eq-2+in-Some w ↦ λ n. absurd (n (is_kind c.describe-e.result.kind Set c.eq-in-loop-began.ensures w.if-eq-2.true))
       | place_members-else-eq-2+then-not-holds_one+else-is_over w ↦ λ n. w.at-is
       | place_members-else-eq-2+else-not-holds_one w ↦ λ n. w.at-is
     ] in
@@ -240,7 +240,7 @@ accepted : (t : ℕ) (c : place_value-Joined-e-gt0 t)
 accepted t c =
     let R = ready_by c.args.table.now in
     let P = c.requires in
-    let e = c.unpack-e.ensures in
+    let e = c.describe-e.ensures in
     elim c.if-e-gt0.branch [
       | place_value-then-e-gt0+in-Ok w ↦ rw (w.notes-is, w.inner-is) (under_open R P _ _ w.«open».ensures _ w.in-Ok.is)
       | place_value-then-e-gt0+in_default w ↦ absurd (must_open R P _ _ w.«open».ensures _ _ w.in_default.is)
@@ -254,14 +254,14 @@ contents : (t : ℕ) (c : place_value-Joined-ne t)
 contents t c U =
     let R = ready_by c.args.table.now in
     let P = c.requires in
-    let e = c.unpack-e.ensures in
+    let e = c.describe-e.ensures in
     elim c.if-ne.branch [
       | place_value-then-ne w ↦
           rw (w.start-is, w.stop-is, w.indefinite-is)
-          (read_contents R P U (λ i. omega (arith, c.type_inv.m i)) c.args.table.now.small (rw e at (is_other c.unpack-e.result.kind Choice c.ne.ensures w.if-ne.true)) w.again-x.result w.again-x.ensures)
+          (read_contents R P U (λ i. omega (arith, c.type_inv.m i)) c.args.table.now.small (rw e at (is_other c.describe-e.result.kind Choice c.ne.ensures w.if-ne.true)) w.again-x.result w.again-x.ensures)
       | place_value-else-ne w ↦
           rw (w.start-is, w.stop-is, w.indefinite-is)
-          (choice_contents R P U (λ i. omega (arith, c.type_inv.m i)) c.args.table.now.small (rw e at (not_other c.unpack-e.result.kind Choice c.ne.ensures w.if-ne.false)))
+          (choice_contents R P U (λ i. omega (arith, c.type_inv.m i)) c.args.table.now.small (rw e at (not_other c.describe-e.result.kind Choice c.ne.ensures w.if-ne.false)))
     ]
 
 -- and what was placed of them
@@ -272,7 +272,7 @@ stored : (t : ℕ) (c : place_value-Joined-e t)
 stored t c U K =
     let R = ready_by c.args.table.now in
     let P = c.requires in
-    let e = c.unpack-e.ensures in
+    let e = c.describe-e.ensures in
     elim c.if-e.branch [
       | place_value-then-e+then-in_segments w ↦
           rw (w.buf-is, w.stop-is, w.next-is) (parts_stored R P U K _ e w.if-e.true (sym w.in_segments.ensures ∙ w.if-in_segments.true) _ _ w.place_segments-x.ensures)
@@ -331,7 +331,7 @@ place_value-place_segments-x-requires t c =
     let z = goal.at.place_value-place_segments-x-requires t c in
     let R = ready_by c.args.table.now in
     let P = c.requires in
-    let e = c.unpack-e.ensures in
+    let e = c.describe-e.ensures in
     let U = accepted t z.Joined-e-gt0 in
     let K = contents t z.Joined-ne U in
     parts_ask R P U K _ e c.if-e.true (sym c.in_segments.ensures ∙ c.if-in_segments.true)
@@ -341,7 +341,7 @@ place_value-overflow_add-stop t c =
     let z = goal.at.place_value-overflow_add-stop t c in
     let R = ready_by c.args.table.now in
     let P = c.requires in
-    let e = c.unpack-e.ensures in
+    let e = c.describe-e.ensures in
     let U = accepted t z.Joined-e-gt0 in
     let K = contents t z.Joined-ne U in
     omega (arith, parts_end R P U K _ e c.if-e.true (sym c.in_segments.ensures ∙ c.if-in_segments.true) _ _ c.place_segments-x.ensures)
@@ -351,7 +351,7 @@ place_value-place_contents-next-requires t c =
     let z = goal.at.place_value-place_contents-next-requires t c in
     let R = ready_by c.args.table.now in
     let P = c.requires in
-    let e = c.unpack-e.ensures in
+    let e = c.describe-e.ensures in
     let U = accepted t z.Joined-e-gt0 in
     let K = contents t z.Joined-ne U in
     leaf_asks R P U K _ e c.if-e.true (sym c.in_segments.ensures ∙ c.if-in_segments.false)
@@ -361,7 +361,7 @@ place_value-place_members-x-requires t c =
     let z = goal.at.place_value-place_members-x-requires t c in
     let R = ready_by c.args.table.now in
     let P = c.requires in
-    let e = c.unpack-e.ensures in
+    let e = c.describe-e.ensures in
     let U = accepted t z.Joined-e-gt0 in
     let K = contents t z.Joined-ne U in
     (omega (arith, c.decreases, part_less R P U K), items_ask R P U K (rw e at c.if-e.false))
@@ -371,7 +371,7 @@ place_value-overflow_add-stop-else-e t c =
     let z = goal.at.place_value-overflow_add-stop-else-e t c in
     let R = ready_by c.args.table.now in
     let P = c.requires in
-    let e = c.unpack-e.ensures in
+    let e = c.describe-e.ensures in
     let U = accepted t z.Joined-e-gt0 in
     let K = contents t z.Joined-ne U in
     omega (arith, items_end R P U K (rw e at c.if-e.false) _ _ c.place_members-x.ensures)
@@ -381,7 +381,7 @@ place_value-close-requires t c =
     let z = goal.at.place_value-close-requires t c in
     let R = ready_by c.args.table.now in
     let P = c.requires in
-    let e = c.unpack-e.ensures in
+    let e = c.describe-e.ensures in
     let U = accepted t z.Joined-e-gt0 in
     let S = stored t z.Joined-e U (contents t z.Joined-ne U) in
     close_asks R P U S _ e
@@ -391,7 +391,7 @@ place_value-returns-in-Ok-close t c =
     let z = goal.at.place_value-returns-in-Ok-close t c in
     let R = ready_by c.args.table.now in
     let P = c.requires in
-    let e = c.unpack-e.ensures in
+    let e = c.describe-e.ensures in
     let U = accepted t z.Joined-e-gt0 in
     let S = stored t z.Joined-e U (contents t z.Joined-ne U) in
     closed_placed R P U S _ e _ c.close.ensures _ _ c.in-Ok-close.is
@@ -401,7 +401,7 @@ place_value-returns-in_default-close t c =
     let z = goal.at.place_value-returns-in_default-close t c in
     let R = ready_by c.args.table.now in
     let P = c.requires in
-    let e = c.unpack-e.ensures in
+    let e = c.describe-e.ensures in
     let U = accepted t z.Joined-e-gt0 in
     let S = stored t z.Joined-e U (contents t z.Joined-ne U) in
     absurd (must_close R P U S _ e _ c.close.ensures _ _ c.in_default-close.is)
@@ -411,7 +411,7 @@ place_value-returns-else-e-gt0-2 t c =
     let z = goal.at.place_value-returns-else-e-gt0-2 t c in
     let R = ready_by c.args.table.now in
     let P = c.requires in
-    let e = c.unpack-e.ensures in
+    let e = c.describe-e.ensures in
     let U = accepted t z.Joined-e-gt0 in
     let S = stored t z.Joined-e U (contents t z.Joined-ne U) in
     bare_placed R P U S (rw e at c.if-e-gt0-2.false)

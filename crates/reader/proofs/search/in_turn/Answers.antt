@@ -1,7 +1,8 @@
 -- `reader::search::in_turn` meets its contract.
 -- Assumes nothing.
-use Rattle.std.proofs.Common.{refl, arith}
+use Rattle.std.proofs.Common.{◌∙◌, refl, arith}
 use Rattle.checker.proofs.Ready.{ready_by}
+use Rattle.records.proofs.Promises.{first_described}
 use Rattle.reader.proofs.Lent.{seeks}
 use Rattle.reader.proofs.Searching.{parted, few, near, within, type_low}
 use Rattle.reader.proofs.ItemsFound.{turn_fits}
@@ -43,4 +44,4 @@ pub returns-then-first-m : goal.returns-then-first-m
 returns-then-first-m c =
     let x = c.args.table.now in
     let D = parted (seeks (ready_by x) c.requires.0) refl c.requires.1 in
-    turn_fits D c.args.m.now (λ k. omega (arith, c.type_inv.m k)) c.args.at c.requires.2 _ c.if-j-s.true c.if-came-j-eq0.true _ _ refl c.first.ensures c.if-first-m.true
+    turn_fits D c.args.m.now (λ k. omega (arith, c.type_inv.m k)) c.args.at c.requires.2 _ c.if-j-s.true c.if-came-j-eq0.true _ _ refl (c.first.ensures ∙ first_described _) c.if-first-m.true

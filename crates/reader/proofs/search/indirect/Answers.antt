@@ -15,25 +15,25 @@ use Rattle.reader.proofs.search.indirect.Goals.{then-came-k-eq0+in_default+then-
 use Rattle.reader.proofs.search.indirect.Goals.{else-loop-k-test, then-loop-k-test+then-came-k-eq0+in_default+then-eq+then-not-optional}
 
 -- the parts of the entry
-abbrev parted_by : (c : Joined-whole) → Parted c.args.table.now.octets.now c.args.table.now.index.now c.args.w c.args.came.now c.unpack-e.result c.parts-s.result
-parted_by c = parted (seeks (ready_by c.args.table.now) c.requires.0) c.unpack-e.ensures c.parts-s.ensures
+abbrev parted_by : (c : Joined-whole) → Parted c.args.table.now.octets.now c.args.table.now.index.now c.args.w c.args.came.now c.describe-e.result c.parts-s.result
+parted_by c = parted (seeks (ready_by c.args.table.now) c.requires.0) c.describe-e.ensures c.parts-s.ensures
 
 -- how many are looked at
 counted : (c : Joined-whole) → Counted (parted_by c) c.if-whole.n
 counted c =
     elim c.if-whole.branch [
-      | then-whole x ↦ inl (eq-eqb _ _ (is_kind c.unpack-e.result.kind Message c.eq-whole.ensures x.if-whole.true), x.n-is)
-      | else-whole x ↦ inr (ne_eqb _ _ (not_kind c.unpack-e.result.kind Message c.eq-whole.ensures x.if-whole.false), x.n-is)
+      | then-whole x ↦ inl (eq-eqb _ _ (is_kind c.describe-e.result.kind Message c.eq-whole.ensures x.if-whole.true), x.n-is)
+      | else-whole x ↦ inr (ne_eqb _ _ (not_kind c.describe-e.result.kind Message c.eq-whole.ensures x.if-whole.false), x.n-is)
     ]
 
 -- the one that is looked at
-candidate_by : (c : Joined-whole-2) → let D = parted (seeks (ready_by c.args.table.now) c.requires.0) c.unpack-e.ensures c.parts-s.ensures in
+candidate_by : (c : Joined-whole-2) → let D = parted (seeks (ready_by c.args.table.now) c.requires.0) c.describe-e.ensures c.parts-s.ensures in
     Counted D c.if-whole.n → Candidate D c.loop-k.k c.if-whole-2.t
 candidate_by c K =
-    let D = parted (seeks (ready_by c.args.table.now) c.requires.0) c.unpack-e.ensures c.parts-s.ensures in
+    let D = parted (seeks (ready_by c.args.table.now) c.requires.0) c.describe-e.ensures c.parts-s.ensures in
     candidate D _ _ c.if-whole-2.t K c.loop-k-test.true (elim c.if-whole-2.branch [
-      | then-whole-2 y ↦ inl (eq-eqb _ _ (is_kind c.unpack-e.result.kind Message c.eq-whole.ensures y.if-whole-2.true), y.t-is)
-      | else-whole-2 y ↦ typed_part D K c.loop-k-test.true (ne_eqb _ _ (not_kind c.unpack-e.result.kind Message c.eq-whole.ensures y.if-whole-2.false)) y.t-is y.part-t.ensures.0
+      | then-whole-2 y ↦ inl (eq-eqb _ _ (is_kind c.describe-e.result.kind Message c.eq-whole.ensures y.if-whole-2.true), y.t-is)
+      | else-whole-2 y ↦ typed_part D K c.loop-k-test.true (ne_eqb _ _ (not_kind c.describe-e.result.kind Message c.eq-whole.ensures y.if-whole-2.false)) y.t-is y.part-t.ensures.0
     ])
 
 pub offset_bounds-came-k : goal.offset_bounds-came-k
@@ -58,13 +58,13 @@ pub overflow_mul-s : goal.overflow_mul-s
 overflow_mul-s c =
     let z = (goal.at.overflow_mul-s c).Joined-whole in
     let D = parted_by z in
-    omega (arith, near D _ (turn_part D _ _ (counted z) c.loop-k-test.true (is_kind c.unpack-e.result.kind Sequence c.eq.ensures c.if-eq.true)))
+    omega (arith, near D _ (turn_part D _ _ (counted z) c.loop-k-test.true (is_kind c.describe-e.result.kind Sequence c.eq.ensures c.if-eq.true)))
 
 pub overflow_add-s : goal.overflow_add-s
 overflow_add-s c =
     let z = (goal.at.overflow_add-s c).Joined-whole in
     let D = parted_by z in
-    omega (arith, near D _ (turn_part D _ _ (counted z) c.loop-k-test.true (is_kind c.unpack-e.result.kind Sequence c.eq.ensures c.if-eq.true)))
+    omega (arith, near D _ (turn_part D _ _ (counted z) c.loop-k-test.true (is_kind c.describe-e.result.kind Sequence c.eq.ensures c.if-eq.true)))
 
 pub loop-k-preserved : goal.loop-k-preserved
 loop-k-preserved c =
@@ -74,15 +74,15 @@ loop-k-preserved c =
     c.loop-k.invariant ∙ elim c.if-came-k-eq0.branch [
       | then-came-k-eq0+in_default+then-eq+else-not-optional x ↦
           indirect_optional D _ _ x.if-whole-2.t (candidate D _ _ x.if-whole-2.t K c.loop-k-test.true (elim x.if-whole-2.branch [
-            | then-whole-2 y ↦ inl (eq-eqb _ _ (is_kind c.unpack-e.result.kind Message c.eq-whole.ensures y.if-whole-2.true), y.t-is)
-            | else-whole-2 y ↦ typed_part D K c.loop-k-test.true (ne_eqb _ _ (not_kind c.unpack-e.result.kind Message c.eq-whole.ensures y.if-whole-2.false)) y.t-is y.part-t.ensures.0
-          ])) _ x.seek.result x.seek.ensures x.if-came-k-eq0.true x.in_default.is (is_kind c.unpack-e.result.kind Sequence x.eq.ensures x.if-eq.true)
+            | then-whole-2 y ↦ inl (eq-eqb _ _ (is_kind c.describe-e.result.kind Message c.eq-whole.ensures y.if-whole-2.true), y.t-is)
+            | else-whole-2 y ↦ typed_part D K c.loop-k-test.true (ne_eqb _ _ (not_kind c.describe-e.result.kind Message c.eq-whole.ensures y.if-whole-2.false)) y.t-is y.part-t.ensures.0
+          ])) _ x.seek.result x.seek.ensures x.if-came-k-eq0.true x.in_default.is (is_kind c.describe-e.result.kind Sequence x.eq.ensures x.if-eq.true)
           x.optional.result x.optional.ensures x.if-not-optional.false
       | then-came-k-eq0+in_default+else-eq x ↦
           indirect_other D _ _ x.if-whole-2.t (candidate D _ _ x.if-whole-2.t K c.loop-k-test.true (elim x.if-whole-2.branch [
-            | then-whole-2 y ↦ inl (eq-eqb _ _ (is_kind c.unpack-e.result.kind Message c.eq-whole.ensures y.if-whole-2.true), y.t-is)
-            | else-whole-2 y ↦ typed_part D K c.loop-k-test.true (ne_eqb _ _ (not_kind c.unpack-e.result.kind Message c.eq-whole.ensures y.if-whole-2.false)) y.t-is y.part-t.ensures.0
-          ])) _ x.seek.result x.seek.ensures x.if-came-k-eq0.true x.in_default.is (not_kind c.unpack-e.result.kind Sequence x.eq.ensures x.if-eq.false)
+            | then-whole-2 y ↦ inl (eq-eqb _ _ (is_kind c.describe-e.result.kind Message c.eq-whole.ensures y.if-whole-2.true), y.t-is)
+            | else-whole-2 y ↦ typed_part D K c.loop-k-test.true (ne_eqb _ _ (not_kind c.describe-e.result.kind Message c.eq-whole.ensures y.if-whole-2.false)) y.t-is y.part-t.ensures.0
+          ])) _ x.seek.result x.seek.ensures x.if-came-k-eq0.true x.in_default.is (not_kind c.describe-e.result.kind Sequence x.eq.ensures x.if-eq.false)
       | else-came-k-eq0 x ↦ indirect_come D _ _ _ K c.loop-k-test.true x.if-came-k-eq0.false
     ]
 
@@ -95,9 +95,9 @@ returns c =
         | else-loop-k-test x ↦ indirect_end D _ _ _ K x.loop-k-test.false
         | then-loop-k-test+then-came-k-eq0+in_default+then-eq+then-not-optional x ↦
             indirect_stop D _ _ _ (candidate D _ _ x.if-whole-2.t K x.loop-k-test.true (elim x.if-whole-2.branch [
-              | then-whole-2 y ↦ inl (eq-eqb _ _ (is_kind c.unpack-e.result.kind Message c.eq-whole.ensures y.if-whole-2.true), y.t-is)
-              | else-whole-2 y ↦ typed_part D K x.loop-k-test.true (ne_eqb _ _ (not_kind c.unpack-e.result.kind Message c.eq-whole.ensures y.if-whole-2.false)) y.t-is y.part-t.ensures.0
-            ])) _ x.seek.result x.seek.ensures x.if-came-k-eq0.true x.in_default.is (is_kind c.unpack-e.result.kind Sequence x.eq.ensures x.if-eq.true)
+              | then-whole-2 y ↦ inl (eq-eqb _ _ (is_kind c.describe-e.result.kind Message c.eq-whole.ensures y.if-whole-2.true), y.t-is)
+              | else-whole-2 y ↦ typed_part D K x.loop-k-test.true (ne_eqb _ _ (not_kind c.describe-e.result.kind Message c.eq-whole.ensures y.if-whole-2.false)) y.t-is y.part-t.ensures.0
+            ])) _ x.seek.result x.seek.ensures x.if-came-k-eq0.true x.in_default.is (is_kind c.describe-e.result.kind Sequence x.eq.ensures x.if-eq.true)
             x.optional.result x.optional.ensures x.if-not-optional.true
       ],
       c.unawaited.ensures,

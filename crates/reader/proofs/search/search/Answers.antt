@@ -13,15 +13,15 @@ use Rattle.reader.proofs.search.search.Goals as goal
 use Rattle.reader.proofs.search.search.Goals.{Joined-eq, then-eq, else-eq}
 
 -- the parts of the entry
-parted_by : (c : Joined-eq) → Parted c.args.table.now.octets.now c.args.table.now.index.now c.args.w c.args.came.now c.unpack-e.result c.parts-s.result
-parted_by c = parted (seeks (ready_by c.args.table.now) c.requires) c.unpack-e.ensures c.parts-s.ensures
+parted_by : (c : Joined-eq) → Parted c.args.table.now.octets.now c.args.table.now.index.now c.args.w c.args.came.now c.describe-e.result c.parts-s.result
+parted_by c = parted (seeks (ready_by c.args.table.now) c.requires) c.describe-e.ensures c.parts-s.ensures
 
 -- and from which of them on the search goes
 from_part : (c : Joined-eq) → c.if-eq.i ≡ since (manner (held c.args.table.now.octets.now c.args.w)) c.args.j
 from_part c =
     since_is (parted_by c) _ _ (elim c.if-eq.branch [
-      | then-eq x ↦ inl (is_kind c.unpack-e.result.kind Sequence c.eq.ensures x.if-eq.true, x.i-is)
-      | else-eq x ↦ inr (not_kind c.unpack-e.result.kind Sequence c.eq.ensures x.if-eq.false, x.i-is)
+      | then-eq x ↦ inl (is_kind c.describe-e.result.kind Sequence c.eq.ensures x.if-eq.true, x.i-is)
+      | else-eq x ↦ inr (not_kind c.describe-e.result.kind Sequence c.eq.ensures x.if-eq.false, x.i-is)
     ])
 
 pub unawaited-requires : goal.unawaited-requires

@@ -21,27 +21,27 @@ returns-in-Err c =
     let q = c.requires in
     let r = ready_by c.args.table.now in
     open_unread _ _ (its_fit r q.0) _ (λ i. omega (arith, c.type_inv.m i)) _ _ _ _ _ _ c.loop-j.invariant.«open»
-    (tag_left r q.0 c.unpack-e.ensures c.loop-j-test.true) _ c.read.ensures.0 _ c.in-Err.is c.loop-j.notes
+    (tag_left r q.0 c.describe-e.ensures c.loop-j-test.true) _ c.read.ensures.0 _ c.in-Err.is c.loop-j.notes
 
 pub bounds-notes-j : goal.bounds-notes-j
 bounds-notes-j c =
     let q = c.requires in
     let r = ready_by c.args.table.now in
-    omega (arith, tag_left r q.0 c.unpack-e.ensures c.loop-j-test.true, its_few r q.0)
+    omega (arith, tag_left r q.0 c.describe-e.ensures c.loop-j-test.true, its_few r q.0)
 
 pub slice_bounds-inside-count : goal.slice_bounds-inside-count
 slice_bounds-inside-count c =
     let q = c.requires in
     let r = ready_by c.args.table.now in
     (extent _ _ (its_fit r q.0) _ (λ i. omega (arith, c.type_inv.m i)) _ _ _ _ _ _ c.loop-j.invariant.«open»
-    (tag_left r q.0 c.unpack-e.ensures c.loop-j-test.true) _ c.read.ensures.0 _ c.in-Ok.is).1
+    (tag_left r q.0 c.describe-e.ensures c.loop-j-test.true) _ c.read.ensures.0 _ c.in-Ok.is).1
 
 pub slice_bounds-inside-start : goal.slice_bounds-inside-start
 slice_bounds-inside-start c =
     let q = c.requires in
     let r = ready_by c.args.table.now in
     let (_, o, n, _) = extent _ _ (its_fit r q.0) _ (λ i. omega (arith, c.type_inv.m i)) _ _ _ _ _ _ c.loop-j.invariant.«open»
-    (tag_left r q.0 c.unpack-e.ensures c.loop-j-test.true) _ c.read.ensures.0 _ c.in-Ok.is in
+    (tag_left r q.0 c.describe-e.ensures c.loop-j-test.true) _ c.read.ensures.0 _ c.in-Ok.is in
     omega (arith, c.loop-j.invariant.«open».high)
 
 pub slice_bounds-inside-end : goal.slice_bounds-inside-end
@@ -49,7 +49,7 @@ slice_bounds-inside-end c =
     let q = c.requires in
     let r = ready_by c.args.table.now in
     let (_, _, n, _) = extent _ _ (its_fit r q.0) _ (λ i. omega (arith, c.type_inv.m i)) _ _ _ _ _ _ c.loop-j.invariant.«open»
-    (tag_left r q.0 c.unpack-e.ensures c.loop-j-test.true) _ c.read.ensures.0 _ c.in-Ok.is in
+    (tag_left r q.0 c.describe-e.ensures c.loop-j-test.true) _ c.read.ensures.0 _ c.in-Ok.is in
     omega (arith, c.loop-j.invariant.«open».high)
 
 pub overflow_add-from : goal.overflow_add-from
@@ -58,9 +58,9 @@ overflow_add-from c =
     let r = ready_by c.args.table.now in
     let l = c.loop-j.invariant in
     let (_, o, n, _) = extent _ _ (its_fit r q.0) _ (λ i. omega (arith, c.type_inv.m i)) _ _ _ _ _ _ l.«open»
-    (tag_left r q.0 c.unpack-e.ensures c.loop-j-test.true) _ c.read.ensures.0 _ c.in-Ok.is in
+    (tag_left r q.0 c.describe-e.ensures c.loop-j-test.true) _ c.read.ensures.0 _ c.in-Ok.is in
     let z = open_next _ _ (its_fit r q.0) _ (λ i. omega (arith, c.type_inv.m i)) _ _ _ _ _ _ l.«open»
-    (tag_left r q.0 c.unpack-e.ensures c.loop-j-test.true) _ c.read.ensures.0 _ c.in-Ok.is _ c.enter.ensures _ c.in-Ok-enter.is in
+    (tag_left r q.0 c.describe-e.ensures c.loop-j-test.true) _ c.read.ensures.0 _ c.in-Ok.is _ c.enter.ensures _ c.in-Ok-enter.is in
     omega (arith, l.«open».high, q.3)
 
 pub overflow_sub-result-in-Err-enter : goal.overflow_sub-result-in-Err-enter
@@ -68,7 +68,7 @@ overflow_sub-result-in-Err-enter c =
     let q = c.requires in
     let r = ready_by c.args.table.now in
     let (_, o, n, _) = extent _ _ (its_fit r q.0) _ (λ i. omega (arith, c.type_inv.m i)) _ _ _ _ _ _ c.loop-j.invariant.«open»
-    (tag_left r q.0 c.unpack-e.ensures c.loop-j-test.true) _ c.read.ensures.0 _ c.in-Ok.is in
+    (tag_left r q.0 c.describe-e.ensures c.loop-j-test.true) _ c.read.ensures.0 _ c.in-Ok.is in
     omega (arith, c.loop-j.invariant.«open».high)
 
 pub returns-in-Err-enter : goal.returns-in-Err-enter
@@ -76,14 +76,14 @@ returns-in-Err-enter c =
     let q = c.requires in
     let r = ready_by c.args.table.now in
     open_refused _ _ (its_fit r q.0) _ (λ i. omega (arith, c.type_inv.m i)) _ _ _ _ _ _ c.loop-j.invariant.«open»
-    (tag_left r q.0 c.unpack-e.ensures c.loop-j-test.true) _ c.read.ensures.0 _ c.in-Ok.is _ c.enter.ensures _ c.in-Err-enter.is c.loop-j.notes
+    (tag_left r q.0 c.describe-e.ensures c.loop-j-test.true) _ c.read.ensures.0 _ c.in-Ok.is _ c.enter.ensures _ c.in-Err-enter.is c.loop-j.notes
 
 pub loop-j-preserved : goal.loop-j-preserved
 loop-j-preserved c =
     let q = c.requires in
     let r = ready_by c.args.table.now in
     let l = c.loop-j.invariant in
-    let k = tag_left r q.0 c.unpack-e.ensures c.loop-j-test.true in
+    let k = tag_left r q.0 c.describe-e.ensures c.loop-j-test.true in
     record {
       four = simp length-set l.four;
       «open» = open_turn _ _ (its_fit r q.0) _ (λ i. omega (arith, c.type_inv.m i)) _ _ _ _ _ _ l.«open» k _ c.read.ensures.0 _ c.in-Ok.is
@@ -96,4 +96,4 @@ returns c =
     let r = ready_by c.args.table.now in
     let r = ready_by c.args.table.now in
     open_done _ _ (its_fit r q.0) _ (λ i. omega (arith, c.type_inv.m i)) _ _ _ _ _ _ c.loop-j.invariant.«open» _
-    (its_count r q.0) (omega (arith, its_count r q.0, q.1)) (rw c.unpack-e.ensures at c.loop-j-test.false)
+    (its_count r q.0) (omega (arith, its_count r q.0, q.1)) (rw c.describe-e.ensures at c.loop-j-test.false)
