@@ -275,7 +275,7 @@ module _ {b index : List ℕ} {w : ℕ} {m : List ℕ} {at from : ℕ} {buf : Li
             let l = length (S Y) in
             let (x, u, e, f) = then_through (read_leaf k W.parts indefinite l (end - stop) (C Y)) _ Val U.left (sym (leaf_read Y s k q) ∙ U.is) in
             let (d, a, c) = carried_of k W.parts indefinite l (end - stop) (C Y) x u e in
-            let i : (octet_of (described w).kind) ≡ kind (Plain k) = entered_kind its ∙ ap kind (sym same_body ∙ q) in
+            let i : (octet_of (described w).kind) ≡ kind (Plain k) = entered_kind its.entered ∙ ap kind (sym same_body ∙ q) in
             let y = content_leaf c (entered_small its ob k (sym same_body ∙ q)) in (
               d,
               u,

@@ -21,8 +21,9 @@ use Rattle.coding.specs.Reckoning.{childless, is_whole, is_lone}
 use Rattle.kinds.specs.declared.Kind.{Kind}
 use Rattle.kinds.specs.Kinds.{octet_of}
 use Rattle.kinds.proofs.Same.{no_octet}
+use Rattle.kinds.proofs.Identifiers.{no_kind_constructed}
 use Rattle.writer.specs.Nodes.{fixed_end, members_end, own_end, node_of, IsMarked, Marked}
-use Rattle.writer.proofs.Nodes.{leaf_node, end_none, no_kind_constructed}
+use Rattle.writer.proofs.Nodes.{leaf_node, end_none}
 use Rattle.writer.proofs.Reading.{and_true, Reads, bad, good, node_reads}
 use Rattle.writer.proofs.Agreement.{and_false}
 

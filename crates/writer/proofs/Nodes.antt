@@ -17,7 +17,7 @@ use Rattle.octets.specs.Lists.{all}
 use Rattle.dates.specs.declared.TimeKind.TheVariants.{Utc, Generalized}
 use Rattle.table.specs.Syntax.{Boolean, Integer, BitString, OctetString, Null, Enumerated, Time, Body, Plain, Sequence, Set, SequenceOf, SetOf, Choice, constructed}
 use Rattle.table.specs.Octets.{kind}
-use Rattle.table.specs.Reading.{every_at, body_at}
+use Rattle.table.specs.Reading.{body_at}
 use Rattle.table.specs.Fields.{constructed_of}
 use Rattle.kinds.specs.declared.Kind.{Kind}
 use Rattle.kinds.specs.Kinds.{octet_of}
@@ -67,12 +67,6 @@ unfolding own_end
 no_kind k v p h =
     let (e₁, e₂, e₃, e₄, e₅, e₁₀, e₂₃, e₂₄, e₁₆, e₁₇, e₄₈, e₄₉, e₅₀) = no_octet k h in
     rw (e₁, e₂, e₃, e₄, e₅, e₁₀, e₂₃, e₂₄, e₁₆, e₁₇, e₄₈, e₄₉, e₅₀) refl
-
-pub no_kind_constructed : (k : ℕ) → ((j : Kind) → octet_of j ≡ k → ⊥) → constructed_of k ≡ true
-unfolding body_at every_at constructed
-no_kind_constructed k h =
-    let (e₁, e₂, e₃, e₄, e₅, e₁₀, e₂₃, e₂₄, e₁₆, e₁₇, e₄₈, e₄₉, e₅₀) = no_octet k h in
-    rw (e₁, e₂, e₃, e₄, e₅, e₁₀, e₂₃, e₂₄, e₁₆, e₁₇, e₄₈, e₄₉) refl
 
 -- a simple kind is none that is constructed
 other_kind_lem : (k j : ℕ) → constructed_of k ≡ false → constructed_of j ≡ true → eqb k j ≡ false

@@ -52,7 +52,13 @@ fn suits(table: &[u8], e: Descriptor, v: &[u8], p: usize) -> bool
 }
 
 // A leaf of a record's kind: where it ends, and how many contents octets it has.
-fn judge_leaf(table: &[u8], e: Descriptor, v: &[u8], at: usize, level: usize) -> Result<Judged, Unfit>
+fn judge_leaf(
+    table: &[u8],
+    e: Descriptor,
+    v: &[u8],
+    at: usize,
+    level: usize,
+) -> Result<Judged, Unfit>
     requires { (length v.now ≤ 16384)
         × IsMarked v.now at
         × (octet_of e.kind ≡ get_or v.now (at + 2) 0)

@@ -1,9 +1,12 @@
 -- `reader::search::begins` meets its contract.
 -- Assumes nothing.
-use Rattle.std.proofs.Common.{◌∙◌}
+use Rattle.std.proofs.Common.{◌∙◌, arith}
 use Rattle.records.proofs.Promises.{first_described}
 use Rattle.reader.proofs.Starts.{begins_itself, begins_not, begins_under, begins_string}
 use Rattle.reader.proofs.search.begins.Goals as goal
+
+pub overflow_add-found : goal.overflow_add-found
+overflow_add-found c = omega (arith, c.first-found.ensures ∙ first_described _, c.requires)
 
 pub returns-then-found-code : goal.returns-then-found-code
 returns-then-found-code c = begins_itself _ _ _ (c.first-found.ensures ∙ first_described _) c.if-found-code.true
