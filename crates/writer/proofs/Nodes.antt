@@ -17,7 +17,7 @@ use Rattle.octets.specs.Lists.{all}
 use Rattle.dates.specs.declared.TimeKind.TheVariants.{Utc, Generalized}
 use Rattle.table.specs.Syntax.{Boolean, Integer, BitString, OctetString, Null, Enumerated, Time, Body, Plain, Sequence, Set, SequenceOf, SetOf, Choice, constructed}
 use Rattle.table.specs.Octets.{kind}
-use Rattle.table.specs.Reading.{body_at}
+use Rattle.table.specs.Reading.{every_at, body_at}
 use Rattle.table.specs.Fields.{constructed_of}
 use Rattle.kinds.specs.declared.Kind.{Kind}
 use Rattle.kinds.specs.Kinds.{octet_of}
