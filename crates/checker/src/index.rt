@@ -4,13 +4,12 @@ ghost use Rattle.octets.specs.Tests.{if};
 ghost use Rattle.octets.specs.Numbers.{Octets};
 ghost use Rattle.table.specs.declared.CheckCause.TheVariants.{TableShape};
 ghost use Rattle.table.specs.Reading.{record_end};
-ghost use Rattle.kinds.specs.Kinds.{octet_of};
 ghost use Rattle.records.specs.Entries.{Filled, packed, outermost_in, all_but_last};
 ghost use Rattle.checker.specs.Index.{number_at, scanned, index_in};
 
 use crate::shape::record_end;
 use ber::identifier::code_of;
-use kinds::Kind;
+use kinds::{Kind, constructed};
 use octets::{octet, two};
 use records::entry::{LACKING, UNTAGGED};
 use table::{CheckCause, Flaw};
@@ -43,10 +42,10 @@ fn outermost(table: &[u8], simple: bool, tags: u8, p: usize) -> u32
 }
 
 // How many of `tags` tags of a kind are explicit.
-fn explicit(kind: Kind, tags: u8) -> u8
-    ensures { result ≡ if (eqb (octet_of kind) 50) tags (λ _. all_but_last tags) }
+fn explicit(kind: u8, tags: u8) -> u8
+    ensures { result ≡ if (eqb kind 50) tags (λ _. all_but_last tags) }
 {
-    if kind == Kind::Choice {
+    if kind == Kind::Choice as u8 {
         return tags;
     }
     if tags == 0 {
@@ -75,13 +74,13 @@ fn entry(table: &[u8], o: usize) -> u64
     requires { (length table.now ≤ 8192) × (0 < record_end table.now o) }
     ensures { result ≡ number_at table.now o }
 {
-    let kind = Kind::of(table[o + 2]).unwrap();
+    let kind = table[o + 2];
     let tags = table[o + 3];
     let p = o + 4;
     let own = p + 3 * tags as usize;
-    let simple = !kind.constructed();
+    let simple = !constructed(kind as usize);
     let code = outermost(table, simple, tags, p);
-    pack(code, own as u16, kind.octet(), explicit(kind, tags), simple)
+    pack(code, own as u16, kind, explicit(kind, tags), simple)
 }
 
 // What is wrong with a table whose record t is not shaped, or where octets follow 128 records.

@@ -1,6 +1,6 @@
 -- The octet of each kind in tables and values, and the kind that an octet counts as (FORMATS, "Tables").
 -- Assumes nothing.
-use Rattle.std.specs.Prelude.{List, [], ◌∷◌, ℕ, eqb}
+use Rattle.std.specs.Prelude.{List, [], ◌∷◌, ℕ, eqb, get_or}
 use Rattle.octets.specs.Tests.{if}
 use Rattle.kinds.specs.declared.Kind.{Kind}
 use Rattle.kinds.specs.declared.Kind.TheVariants.{Boolean, Integer, BitString, OctetString, Null, Enumerated, UtcTime, GeneralizedTime, Sequence, Set, SequenceOf, SetOf, Choice, Message}
@@ -22,10 +22,14 @@ octet_of SetOf = 49
 octet_of Choice = 50
 octet_of Message = 51
 
--- those of records
+-- those of records, by their places
 abbrev pub kinds : List Kind
 kinds =
     Boolean ∷ Integer ∷ BitString ∷ OctetString ∷ Null ∷ Enumerated ∷ UtcTime ∷ GeneralizedTime ∷ Sequence ∷ Set ∷ SequenceOf ∷ SetOf ∷ Choice ∷ []
+
+-- the kind at a place; a message from the last on
+unfoldable pub kind_at : ℕ → Kind
+kind_at n = get_or kinds n Message
 
 -- the kind that has an octet; a message if no record's kind has it
 abbrev pub kind_among : ℕ → List Kind → Kind

@@ -4,11 +4,11 @@
 ghost use Rattle.std.specs.Prelude.{◌≡◌, ◌||◌, ◌↔◌, Some, eqb};
 ghost use Rattle.table.specs.Fields.{universal_of, constructed_of, time_kind};
 ghost use Rattle.kinds.specs.declared.Kind.{Kind};
-ghost use Rattle.kinds.specs.Kinds.{octet_of, kind_of};
+ghost use Rattle.kinds.specs.Kinds.{octet_of, kind_at, kind_of};
 
 use dates::TimeKind;
 
-// Each is numbered by its octet in tables and values, so a compiler needs no table to make the one of the other.
+// Each is numbered by its octet in tables and values. Its place is that among these lines.
 #[derive(Clone, Copy, Debug, PartialEq, Eq)]
 pub enum Kind {
     Boolean = 1,
@@ -28,7 +28,14 @@ pub enum Kind {
     Message = 51,
 }
 
-// What a kind is asked. Of a number that is no kind's octet the functions after them are asked.
+// The place of the kind that has each octet; that of a message where none has.
+const PLACE: [u8; 52] = [
+    13, 0, 1, 2, 3, 4, 13, 13, 13, 13, 5, 13, 13, 13, 13, 13, 8, 9, 13, 13, 13, 13, 13, 6, 7, 13,
+    13, 13, 13, 13, 13, 13, 13, 13, 13, 13, 13, 13, 13, 13, 13, 13, 13, 13, 13, 13, 13, 13, 10, 11,
+    12, 13,
+];
+
+// What a kind is asked. The functions after them are asked of any number.
 impl Kind {
     // Its octet in tables and values.
     pub fn octet(self) -> u8
@@ -60,12 +67,38 @@ impl Kind {
         }
     }
 
-    // The same; a message for an octet that no kind has.
-    #[tactic(auto, using(crate::proofs::Same::or_message))]
+    // The kind at a place; a message from the last on. A compiler turns these tests into one.
+    #[tactic(auto, unfolding(crate::specs::Kinds::kind_at))]
+    pub fn at(place: u8) -> Kind
+        ensures { result ≡ kind_at place }
+    {
+        match place {
+            0 => Kind::Boolean,
+            1 => Kind::Integer,
+            2 => Kind::BitString,
+            3 => Kind::OctetString,
+            4 => Kind::Null,
+            5 => Kind::Enumerated,
+            6 => Kind::UtcTime,
+            7 => Kind::GeneralizedTime,
+            8 => Kind::Sequence,
+            9 => Kind::Set,
+            10 => Kind::SequenceOf,
+            11 => Kind::SetOf,
+            12 => Kind::Choice,
+            _ => Kind::Message,
+        }
+    }
+
+    // The kind that has the octet; a message for an octet that no kind has. It is asked for every item: a look-up costs less than the tests of `of`.
+    #[tactic(auto, using(crate::proofs::Same::placed, crate::proofs::Same::beyond))]
     pub fn or_message(octet: u8) -> Kind
         ensures { result ≡ kind_of octet }
     {
-        Kind::of(octet).unwrap_or(Kind::Message)
+        if octet < 52 {
+            return Kind::at(PLACE[octet as usize]);
+        }
+        Kind::Message
     }
 
     // Whether what it holds is members.
