@@ -10,7 +10,7 @@ use table::Flaw;
 
 // Room for the index of a table's records. It is a struct, since no clause can say what an array that is lent by itself ends as, once the
 // value that borrows it is gone.
-#[derive(Clone, Copy)]
+#[derive(Clone, Copy, Debug, PartialEq, Eq)]
 pub struct Index {
     pub entries: [u64; 128],
 }
