@@ -70,7 +70,7 @@ loop-at-preserved c =
 
 pub returns-in_default : goal.returns-in_default
 returns-in_default c =
-    joins_unread c.loop-at.invariant.joins c.loop-at.invariant.inside c.loop-at-test.true c.if-first-eq0.false c.read.ensures.0 c.in_default.is
+    joins_unread c.loop-at.invariant.joins c.loop-at.invariant.inside c.loop-at-test.true c.if-first-eq0.false c.read.ensures.0 c.in_default.is (omega arith)
 
 pub returns : goal.returns
 returns c = joins_over c.loop-at.invariant.joins c.loop-at.invariant.inside c.loop-at.invariant.there c.loop-at-test.false
