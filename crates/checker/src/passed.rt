@@ -8,8 +8,8 @@ ghost use Rattle.records.specs.Entries.{Filled};
 use crate::check_into;
 use table::Flaw;
 
-// Room for the index of a table's records. It is a struct, since no clause can say what an array that is lent by itself ends as, once the
-// value that borrows it is gone.
+// Room for the index of a table's records. It is a struct, and the first parameter of `check`, since a clause on what it ends as, once what
+// borrows it is gone, is proved of such a parameter alone.
 #[derive(Clone, Copy, Debug, PartialEq, Eq)]
 pub struct Index {
     pub entries: [u64; 128],
