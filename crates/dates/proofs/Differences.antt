@@ -7,8 +7,8 @@ use lib.Dec.{ltb}
 use lib.IntN.{ℤ, pos, negsuc, neg_ℤ, nat_abs, ◌+ℤ◌, ◌-ℤ◌, +ℤ_assoc, +ℤ_comm, +ℤ_invl, +ℤ_idl, neg_ℤ-+ℤ, neg_ℤ-neg_ℤ}
 use lib.Signed.{mag}
 use mir.Syntax.{w64}
-use mir.Val.{SFits, to_z}
-use mir.ValLaws.{to_z_pos}
+use mir.Val.{SFits, to_z, of_z}
+use mir.ValLaws.{to_z_pos, to_z-of_z}
 use borrow.Author.Tests.{ltb-true, ltb-false}
 use Rattle.octets.proofs.Tests.{test}
 
@@ -40,3 +40,6 @@ module _ (m n : ℕ) (h : m < 2199023255552) (g : n < 2199023255552) where
 
   pub difference_fits : SFits w64 (to_z w64 m -ℤ to_z w64 n)
   difference_fits = rw same (record { sfits = omega (arith, mag_most (pos m -ℤ pos n), difference_below m n h g) })
+
+  pub difference : to_z w64 (of_z w64 (to_z w64 m -ℤ to_z w64 n)) ≡ pos m -ℤ pos n
+  difference = to_z-of_z w64 (to_z w64 m -ℤ to_z w64 n) difference_fits ∙ same
