@@ -54,13 +54,11 @@ fn open_end(m: &[u8], start: usize) -> usize
 pub fn end(m: &[u8], from: usize) -> usize
     ensures { result ≡ item_end m.now from }
 {
-    let Ok(x) = length::read(m, from) else {
-        return m.len();
-    };
-    if x.indefinite {
-        return open_end(m, x.start);
+    match length::read(m, from) {
+        Err(_) => m.len(),
+        Ok(x) if x.indefinite => open_end(m, x.start),
+        Ok(x) => x.end,
     }
-    x.end
 }
 
 // How many octets stand before n contents octets in the definite item of a code.

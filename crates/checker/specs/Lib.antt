@@ -3,3 +3,4 @@
 pub mod Marks
 pub mod Gathering
 pub mod Index
+pub mod Lent

@@ -149,10 +149,10 @@ fn run_length(table: &[u8], at: usize, left: usize) -> usize
     requires { (0 < left) × (at + 3 * left ≤ 100000) }
     ensures { result ≡ suc (lowest (λ k. not (optional_in table.now at k)) (left - 1)) }
 {
-    let last = (0..left - 1)
-        .find(|&k| !optional(table, at + 2 * k))
-        .unwrap_or(left - 1);
-    last + 1
+    match (0..left - 1).find(|&k| !optional(table, at + 2 * k)) {
+        Some(k) => k + 1,
+        None => left,
+    }
 }
 
 // Whether two members of one run have a first tag in common.

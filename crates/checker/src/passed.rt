@@ -8,6 +8,13 @@ ghost use Rattle.records.specs.Entries.{Filled};
 use crate::check_into;
 use table::Flaw;
 
+// Room for the index of a table's records. It is a struct, and the first parameter of `check`, since a clause on what it ends as, once what
+// borrows it is gone, is proved of such a parameter alone.
+#[derive(Clone, Copy, Debug, PartialEq, Eq)]
+pub struct Index {
+    pub entries: [u64; 128],
+}
+
 // Its octets, the index of its records, and how many there are.
 #[derive(Clone, Copy)]
 pub struct Passed<'a> {
@@ -21,17 +28,27 @@ pub struct Passed<'a> {
 }
 
 impl<'a> Passed<'a> {
-    // Checks a table, and fills the index that is lent.
-    pub fn check(table: &'a [u8], index: &'a mut [u64; 128]) -> Result<Passed<'a>, Flaw>
-        ensures passes { IfOk result (λ x. (verdict table.now ≡ no_flaw) × (x.octets.now ≡ table.now)) }
+    ghost use Rattle.std.specs.Borrow.{sem};
+    ghost use Rattle.checker.specs.Index.{index_after};
+    ghost use Rattle.checker.specs.Lent.{EndsAs};
+
+    // Checks a table, and fills the index that is lent. Passed or refused, the index ends as `check_into` leaves it.
+    pub fn check(index: &'a mut Index, table: &'a [u8]) -> Result<Passed<'a>, Flaw>
+        ensures passes { IfOk result (λ x.
+            (verdict table.now ≡ no_flaw)
+            × (x.octets.now ≡ table.now)
+            × (x.index.now ≡ index_after table.now index.old.entries)) }
         ensures refused { IfErr result (λ f. verdict table.now ≡ Err f) }
+        ensures* left { sem 𝓛 (EndsAs index.entry (index_after table.now index.old.entries)) }
     {
-        let checked = check_into(table, index);
-        checked.verdict?;
-        Ok(Passed {
-            octets: table,
-            index,
-            count: checked.count,
-        })
+        let checked = check_into(table, &mut index.entries);
+        match checked.verdict {
+            Ok(()) => Ok(Passed {
+                octets: table,
+                index: &index.entries,
+                count: checked.count,
+            }),
+            Err(f) => Err(f),
+        }
     }
 }

@@ -14,6 +14,7 @@ use Rattle.std.specs.Prelude.{Option, None}
 use Rattle.std.specs.Bool.{then_some}
 use Rattle.octets.specs.Answer.{Answer, got, refused, if, none_left}
 use Rattle.octets.specs.Numbers.{unless_zero}
+use Rattle.octets.proofs.Tests.{test}
 use Rattle.octets.proofs.Lists.{both}
 use Rattle.x690.specs.declared.ReadingCause.{ReadingCause}
 use Rattle.x690.specs.declared.ReadingCause.TheVariants.{Contents}
@@ -134,6 +135,19 @@ module _ (b : List ℕ) (p lead : ℕ) where
     other_size c UtcTime h₁ h₂ h₃ h₄ h₅ h₆ h₇ h₈ e = absurd (h₇ refl)
     other_size c GeneralizedTime h₁ h₂ h₃ h₄ h₅ h₆ h₇ h₈ e = absurd (h₈ refl)
     other_size c k h₁ h₂ h₃ h₄ h₅ h₆ h₇ h₈ e = (e, omega arith)
+
+-- contents of no simple kind are wrong
+module _ (b : List ℕ) (k p : ℕ) (c : List ℕ) where
+  pub other_wrong : (k ≡ 1 → ⊥) → (k ≡ 2 → ⊥) → (k ≡ 3 → ⊥) → (k ≡ 4 → ⊥) → (k ≡ 5 → ⊥) → (k ≡ 10 → ⊥) → (k ≡ 23 → ⊥) → (k ≡ 24 → ⊥)
+      → 0 ≡ leaf_weight (body_at b k p) c
+  unfolding leaf_weight body_at
+  other_wrong h₁ h₂ h₃ h₄ h₅ h₁₀ h₂₃ h₂₄ =
+      rw (ne_eqb k 1 h₁, ne_eqb k 2 h₂, ne_eqb k 3 h₃, ne_eqb k 4 h₄, ne_eqb k 5 h₅, ne_eqb k 10 h₁₀, ne_eqb k 23 h₂₃, ne_eqb k 24 h₂₄) (
+      test (eqb k 16) (λ e. rw e) λ e₁.
+      test (eqb k 17) (λ e. rw (e₁, e)) λ e₂.
+      test (eqb k 48) (λ e. rw (e₁, e₂, e)) λ e₃.
+      test (eqb k 49) (λ e. rw (e₁, e₂, e₃, e)) λ e₄.
+      rw (e₁, e₂, e₃, e₄))
 
 listed_is : (ns : List ℕ) (z : ℤ) → lists_number ns z ≡ is_listed ns z
 unfolding is_listed listed

@@ -15,7 +15,7 @@ ghost use Rattle.std.specs.Prelude.{◌≡◌};
 ghost use Rattle.table.specs.Reading.{table_in};
 ghost use Rattle.coding.specs.Calls.{read_outcome, whole_read};
 
-use checker::passed::Passed;
+use checker::passed::{Index, Passed};
 use coding::{LONGEST_MESSAGE, LONGEST_VALUE, MessageCause, Misread, Refusal, TableCause};
 
 // Reads a message of type t, by a table that passed.
@@ -57,7 +57,9 @@ pub fn read(table: &[u8], t: usize, message: &[u8], buf: &mut [u8]) -> Result<us
         (result ≡ x.answer)
         × (buf.new ≡ x.buffer) }
 {
-    let mut index = [0u64; 128];
-    let table = Passed::check(table, &mut index)?;
+    let mut index = Index {
+        entries: [0u64; 128],
+    };
+    let table = Passed::check(&mut index, table)?;
     read_passed(&table, t, message, buf)
 }

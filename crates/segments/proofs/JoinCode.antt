@@ -3,7 +3,7 @@
 use borrow.Author.Tests.{leb-true, leb-false, lt-ltb, le-ltb, le-leb, ne_eqb}
 use mathlib.Core.Bool.{true, false}
 use mathlib.Core.List.{List, [], ◌∷◌, ◌++◌}
-use mathlib.Core.Path.{◌≡◌, refl, sym, ap, ◌∙◌}
+use mathlib.Core.Path.{◌≡◌, refl, ap, ◌∙◌}
 use native.Mathlib.Nat.{add-zero}
 use native.Mathlib.Omega.{arith}
 use Prim.Native.Nat.{ℕ, zero, suc, ◌+◌, ◌-◌, ◌≤◌, ◌<◌, min}
@@ -222,10 +222,8 @@ module _ {k : Kind} {m buf₀ : List ℕ} {to : ℕ} {buf : List ℕ} {at next u
         onward : joining k m buf₀ to ≡ enter k (walk k J.turns) (get_or m at 0) (suc (n - 1)) here (read_length 0 (drop (at + 1) m))
         onward = standing ∙ walk_enter k J.turns (n - 1) (get_or m at 0) (drop (at + 1) m) buf next unused z
 
-        pub joins_unread : {f : ReadingCause} → x ≡ Err f → Joins k m buf₀ to buf (length m) next unused n
-        joins_unread {f} e =
-            turn (length m) n there (omega arith)
-            (onward ∙ rw (length_refused m (at + 1) 0 x (a 0) f e, none_at m (length m) (omega arith)) (sym (walk_none k J.turns n (way [] buf next unused))))
+        pub joins_unread : {f : ReadingCause} {e : ℕ} → x ≡ Err f → e ≡ length m → Answers k m buf₀ to buf (record { end = e; next = next; unused = unused })
+        joins_unread {f} {e} r q = ended e (omega arith) (onward ∙ rw (length_refused m (at + 1) 0 x (a 0) f r, none_at m e (omega arith)) refl)
 
         module _ {y : Extent} (e : x ≡ Ok y) where
           pub joins_further : (at < y.start) × (y.start ≤ y.end) × (y.end ≤ length m)

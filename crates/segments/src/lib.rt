@@ -245,7 +245,11 @@ pub fn join(m: &[u8], bits: bool, buf: &mut [u8], to: usize) -> Joined
                 at = x.end;
             }
         } else {
-            at = m.len();
+            return Joined {
+                end: m.len(),
+                next,
+                unused,
+            };
         }
     }
     Joined {

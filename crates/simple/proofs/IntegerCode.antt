@@ -1,19 +1,21 @@
--- Laws for the code of integers: loops that read and put octets, tests for the fewest octets, all eight octets at once.
+-- Laws for the code of integers: the bits of an integer, loops that read and put octets, tests for the fewest octets, all eight octets at once.
 -- Assumes nothing.
-use borrow.Author.Tests.{eq-eqb, ne_eqb, le-leb, lt-leb}
+use borrow.Author.Tests.{ltb-true, eq-eqb, ne_eqb, le-leb, lt-leb}
 use mathlib.Core.Path.{◌≡◌, refl, sym, ap, ◌∙◌}
-use mathlib.Core.Bool.{Bool, true, false, not}
+use mathlib.Core.Bool.{Bool, true, false, not, true≢false}
 use mathlib.Core.List.{List, [], ◌∷◌}
 use native.Mathlib.Nat.{zero-add, pow-le-pow_right}
 use native.Mathlib.Numerals.{add-one}
 use native.Mathlib.Omega.{arith}
 use Prim.Native.Nat.{ℕ, zero, suc, ◌+◌, ◌-◌, ◌*◌, ◌/◌, ◌%◌, ◌^◌, ◌≤◌, ◌<◌}
-use lib.Dec.{ltb, eqb}
-use lib.IntN.{ℤ, pos}
+use lib.Bits.{bit_and, bit_or, or_shifted, and_mask}
+use lib.Dec.{T, ltb, eqb}
+use lib.IntN.{ℤ, pos, negsuc, nat_abs}
 use lib.ListN.{length, drop, get_or, set, length-set, drop_of_length-le}
 use lib.Seq.{drop-cons, drop-set-lt, get_or-set_same}
+use lib.Signed.{mag, lt_z, non_neg, shr_z}
 use mir.Syntax.{w64}
-use mir.Val.{SFits, to_z, of_z}
+use mir.Val.{Fits, SFits, to_z, of_z}
 use mir.Facts.{Fits-of_z}
 use mir.ValLaws.{to_z_pos, to_z-neg, to_z-of_z}
 use Rattle.std.specs.Int.{to_be_bytes, from_be_bytes}
@@ -25,6 +27,48 @@ use Rattle.octets.proofs.Permutations.{all_octets}
 use Rattle.x690.specs.Integer.{negative, digit, pile, signed, integer_of, spare, minimal, eight, eight_of}
 use Rattle.simple.specs.Integers.{integer_in, last_before}
 use Rattle.x690.proofs.Integers.{grow, head_small, within, eight_length, spelt, eight_same, integer_fits}
+
+-- z, or its complement, by what `z < 0` says
+pub bits_neg : (z : ℤ) → SFits w64 z → lt_z (to_z w64 (of_z w64 z)) (pos 0) ≡ true → to_z w64 (18446744073709551615 - of_z w64 z) ≡ pos (mag z)
+bits_neg (pos n) f h =
+    let e : ltb n 0 ≡ true = sym (ap (λ (y : ℤ). lt_z y (pos 0)) (to_z-of_z w64 (pos n) f)) ∙ h in
+    absurd (omega (arith, ltb-true n 0 e))
+bits_neg (negsuc n) f h =
+    let b = f.sfits in
+    let e : 18446744073709551615 - (18446744073709551616 - suc n) ≡ n = omega arith in
+    ap (to_z w64) e ∙ to_z_pos w64 n b
+
+pub bits_pos : (z : ℤ) → SFits w64 z → lt_z (to_z w64 (of_z w64 z)) (pos 0) ≡ false → to_z w64 (of_z w64 z) ≡ pos (mag z)
+bits_pos (pos n) f h = to_z-of_z w64 (pos n) f
+bits_pos (negsuc n) f h = absurd (true≢false (sym (ap (λ (y : ℤ). lt_z y (pos 0)) (to_z-of_z w64 (negsuc n) f)) ∙ h))
+
+-- 64 bits as the top one and the others: put together, and taken apart
+pub top_and_others : (u : ℕ) → u < 18446744073709551616
+    → bit_or (u / 9223372036854775808 * 2 ^ 63 % 18446744073709551616) (u % 9223372036854775808) ≡ u
+top_and_others u h =
+    let e : u / 9223372036854775808 * 9223372036854775808 % 18446744073709551616 ≡ u / 9223372036854775808 * 9223372036854775808 = omega arith in
+    let f : u / 9223372036854775808 * 9223372036854775808 + u % 9223372036854775808 ≡ u = omega arith in
+    rw e (or_shifted (u / 9223372036854775808) 63 (u % 9223372036854775808) (omega arith) ∙ f)
+
+-- u, read as an integer that is not negative, goes into 64 bits as n
+abbrev pub Cast : ℕ → ℕ → Type 0
+Cast u n = T (non_neg (to_z w64 u)) × Fits w64 (nat_abs (to_z w64 u)) × (nat_abs (to_z w64 u) ≡ n)
+
+cast : (u n : ℕ) → u ≡ n → n < 9223372036854775808 → Cast u n
+cast u n e h = rw (e, to_z_pos w64 n h) (tt, record { fits = omega arith }, refl)
+
+pub top_cast : (z : ℤ) → SFits w64 z → Cast (bit_and (of_z w64 (shr_z (to_z w64 (of_z w64 z)) (2 ^ 63))) 1) (of_z w64 z / 9223372036854775808)
+top_cast z f = rw (to_z-of_z w64 z f) (side z f.sfits)
+  where
+    side : (z : ℤ) → mag z < 9223372036854775808 → Cast (bit_and (of_z w64 (shr_z z (2 ^ 63))) 1) (of_z w64 z / 9223372036854775808)
+    side (pos n) h = let e : n / 9223372036854775808 ≡ 0 = omega arith in rw e (cast 0 0 refl (omega arith))
+    side (negsuc n) h =
+        let e : n / 9223372036854775808 ≡ 0 = omega arith in
+        let g : (18446744073709551616 - suc n) / 9223372036854775808 ≡ 1 = omega arith in
+        rw (e, g) (cast 1 1 refl (omega arith))
+
+pub others_cast : (u : ℕ) → Cast (bit_and u 9223372036854775807) (u % 9223372036854775808)
+others_cast u = cast (bit_and u 9223372036854775807) (u % 9223372036854775808) (and_mask u 63) (omega arith)
 
 -- 64 bits of a number that is not negative, and their complement in one that is: as `digit` of an octet
 abbrev magnitude : Bool → ℕ → ℕ

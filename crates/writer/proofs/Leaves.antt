@@ -1,6 +1,6 @@
 -- A leaf by its kind: where its own part ends, its contents octets, and the octets of v that they come from.
 -- Assumes nothing.
-use mathlib.Core.Bool.{Bool, true, false, not}
+use mathlib.Core.Bool.{Bool, true, false, not, true≢false}
 use mathlib.Core.List.{List, [], ◌∷◌}
 use mathlib.Core.Path.{◌≡◌, refl, sym, ap, ◌∙◌}
 use Prim.Native.Nat.{ℕ, suc, ◌+◌, ◌-◌, ◌*◌, ◌/◌, ◌%◌, ◌^◌, ◌≤◌, ◌<◌}
@@ -13,7 +13,7 @@ use lib.ListN.{length, get_or, take, drop, set, length-drop}
 use lib.Seq.{sets, length-take-le, get_or-take}
 use Rattle.std.specs.Prelude.{Option, Some, None}
 use Rattle.octets.specs.Tests.{if}
-use Rattle.octets.proofs.Tests.{test}
+use Rattle.octets.proofs.Tests.{test, at}
 use Rattle.octets.specs.Numbers.{two}
 use Rattle.octets.specs.Buffers.{filled}
 use Rattle.x690.specs.Integer.{integer_of, fewest_of, eight}
@@ -36,7 +36,7 @@ use Rattle.coding.specs.Judging.{octets_for, spare_in}
 use Rattle.writer.specs.Nodes.{fixed_end, boolean_end, string_end, bits_end, time_end, clear_at, own_end, leaf_of}
 use Rattle.writer.specs.Leaves.{MeasuresSome}
 use Rattle.writer.specs.declared.contents.Extent.{Extent}
-use Rattle.writer.proofs.Nodes.{fixed_is}
+use Rattle.writer.proofs.Nodes.{fixed_is, no_built}
 use Rattle.writer.proofs.Reading.{time_at_lem}
 
 none : {X : Type 0} → 0 < 0 → X
@@ -251,6 +251,19 @@ module _ (v : List ℕ) (p : ℕ) where
           let x = until_some _ _ h in
           shaped (x.0 ∙ sym (own_time_lem k v p ∙ rw (le-ltb (length v) (p + 7) x.1, in_range_lem true f) refl)) (λ _. omega arith)
           (s ∙ sym (rw (leaf_time k v p) (length_time k (time_at v p)))) (rw s (time_few k))
+
+-- the last simple kinds, those of times, if it is none of the others
+abbrev pub LastLeaf : ℕ → Type 0
+LastLeaf k = constructed_of k ≡ false → eqb k 1 ≡ false → eqb k 2 ≡ false → eqb k 3 ≡ false → eqb k 4 ≡ false → eqb k 5 ≡ false → eqb k 10 ≡ false
+    → k ≡ time_number (time_kind k)
+
+pub last_leaf : (k : ℕ) → LastLeaf k
+unfolding body_at constructed time_kind
+last_leaf k =
+    at k 23 LastLeaf (λ _ _ _ _ _ _ _. refl) λ e₂₃.
+    at k 24 LastLeaf (λ _ _ _ _ _ _ _. refl) λ e₂₄ h e₁ e₂ e₃ e₄ e₅ e₁₀.
+    let (e₁₆, e₁₇, e₄₈, e₄₉, e₅₀) = no_built k h in
+    absurd (true≢false (rw (e₁, e₂, e₃, e₄, e₅, e₁₀, e₂₃, e₂₄, e₁₆, e₁₇, e₄₈, e₄₉) at h))
 
 -- a kind that is not constructed, and none of the first six, is one of the two times
 pub time_left : (k : Kind) (i : TimeKind) → constructed_of (octet_of k) ≡ false → (k ≡ Boolean → ⊥) → (k ≡ Integer → ⊥) → (k ≡ BitString → ⊥)

@@ -13,7 +13,7 @@ ghost use Rattle.std.specs.Prelude.{◌≡◌, ◌≤◌, length};
 ghost use Rattle.table.specs.Reading.{table_in};
 ghost use Rattle.coding.specs.Calls.{write_outcome, whole_write};
 
-use checker::passed::Passed;
+use checker::passed::{Index, Passed};
 use coding::{LONGEST_MESSAGE, LONGEST_VALUE, Refusal, TableCause, ValueCause};
 
 // Writes a value of type t, by a table that passed.
@@ -48,8 +48,10 @@ pub fn write(table: &[u8], t: usize, value: &[u8], buf: &mut [u8]) -> Result<usi
         (result ≡ x.answer)
         × (buf.new ≡ x.buffer) }
 {
-    let mut index = [0u64; 128];
-    let table = Passed::check(table, &mut index)?;
+    let mut index = Index {
+        entries: [0u64; 128],
+    };
+    let table = Passed::check(&mut index, table)?;
     let room = buf.len().min(LONGEST_MESSAGE);
     write_passed(&table, t, value, &mut buf[..room])
 }

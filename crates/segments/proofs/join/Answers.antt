@@ -54,11 +54,11 @@ slice_bounds-c-start c = let (low, mid, high) = joins_further c.loop-at.invarian
 pub slice_bounds-c-end : goal.slice_bounds-c-end
 slice_bounds-c-end c = (joins_further c.loop-at.invariant.joins c.loop-at.invariant.inside c.loop-at-test.true c.if-first-eq0.false c.read.ensures.0 c.in-Ok.is).2
 
-pub loop-at-smaller-else-first-ge32 : goal.loop-at-smaller-else-first-ge32
-loop-at-smaller-else-first-ge32 c = let (low, mid, high) = joins_further c.loop-at.invariant.joins c.loop-at.invariant.inside c.loop-at-test.true c.if-first-eq0.false c.read.ensures.0 c.in-Ok.is in omega arith
+pub loop-at-smaller : goal.loop-at-smaller
+loop-at-smaller c = let (low, mid, high) = joins_further c.loop-at.invariant.joins c.loop-at.invariant.inside c.loop-at-test.true c.if-first-eq0.false c.read.ensures.0 c.in-Ok.is in omega arith
 
-pub loop-at-preserved-else-first-ge32 : goal.loop-at-preserved-else-first-ge32
-loop-at-preserved-else-first-ge32 c =
+pub loop-at-preserved : goal.loop-at-preserved
+loop-at-preserved c =
     let (low, mid, high) = joins_further c.loop-at.invariant.joins c.loop-at.invariant.inside c.loop-at-test.true c.if-first-eq0.false c.read.ensures.0 c.in-Ok.is in
     record {
       there = high;
@@ -68,13 +68,9 @@ loop-at-preserved-else-first-ge32 c =
           c.put_carried-next.ensures.1 c.unused_in-unused.ensures;
     }
 
-pub loop-at-preserved : goal.loop-at-preserved
-loop-at-preserved c = record {
-  there = omega arith;
-  inside = c.loop-at.invariant.inside;
-  few = omega arith;
-  joins = joins_unread c.loop-at.invariant.joins c.loop-at.invariant.inside c.loop-at-test.true c.if-first-eq0.false c.read.ensures.0 c.in_default.is;
-}
+pub returns-in_default : goal.returns-in_default
+returns-in_default c =
+    joins_unread c.loop-at.invariant.joins c.loop-at.invariant.inside c.loop-at-test.true c.if-first-eq0.false c.read.ensures.0 c.in_default.is (omega arith)
 
 pub returns : goal.returns
 returns c = joins_over c.loop-at.invariant.joins c.loop-at.invariant.inside c.loop-at.invariant.there c.loop-at-test.false
