@@ -2,10 +2,10 @@
 -- Assumes nothing.
 use mathlib.Core.List.{List, [], ◌∷◌, ◌++◌, map}
 use mathlib.Core.Path.{◌≡◌, refl, ◌∙◌}
-use Prim.Native.Nat.{ℕ, zero, suc, ◌+◌, ◌≤◌, ◌<◌}
+use Prim.Native.Nat.{ℕ, zero, suc, ◌+◌, ◌-◌, ◌≤◌, ◌<◌}
 use native.Mathlib.Omega.{arith}
 use lib.Dec.{eqb}
-use lib.ListN.{length, get_or, length-append, length-map, get_or-append}
+use lib.ListN.{length, get_or, replicate, length-append, length-map, length-replicate, get_or-append}
 use lib.Seq.{get_or_at}
 use borrow.Author.Tests.{eqb-true, eqb-false, le-ltb}
 use Rattle.octets.specs.Numbers.{Octets}
@@ -68,6 +68,13 @@ module _ (b : List ℕ) (octets : Octets b) (short : length b ≤ 8192) where
             let s = p.shaped t (omega arith) in
             rw (i, numbered_at b os t (omega arith), entry_back b (get_or os t 65535) octets s short) (entry_entered b (get_or os t 65535) octets s);
       }
+
+  pub index_length : length (index_in b) ≡ 128
+  unfolding scan numbered
+  index_length =
+      let os = (scan b).offsets in
+      let p : Placed b os = scan_placed b 128 [] 0 (omega arith) (record { few = omega arith; shaped = λ t h. absurd (omega arith) }) in
+      omega (arith, length-append (map (number_at b) os) (replicate (128 - length os) 0), length-map os (number_at b), length-replicate {A = ℕ} (128 - length os) 0, p.few)
 
 -- so it is after the check of octets that are not too many
 pub filled_after : (b before index : List ℕ) (n : ℕ) → Octets b → n ≡ count_after b → index ≡ index_after b before → length b ≤ 8192

@@ -20,7 +20,7 @@ use Rattle.table.specs.Walk.{like, free, at, under, Walks, done, seen, down, Nam
 use Rattle.table.proofs.Loops.{every_step}
 use Rattle.table.proofs.Nodes.{like_low}
 use Rattle.records.specs.Entries.{unpacked, untagged, counted, Filled}
-use Rattle.records.specs.Descriptors.{described}
+use Rattle.records.specs.Descriptors.{descriptor_of}
 use Rattle.records.specs.declared.descriptor.Descriptor.{Descriptor}
 use Rattle.records.specs.declared.entry.Span.{Span}
 use Rattle.checker.specs.Gathering.{Met, Gathered, GatheredUnder, StandIns}
@@ -165,9 +165,8 @@ module _ {b index nodes v : List ℕ} {t : ℕ} (x : Gathers b index nodes v t) 
   pub put_gathers : Gathers b index nodes put t
   put_gathers = gathers_at t (length-set v (get_or nodes t 0) (get_or v 128 0) ∙ x.marks) x.there
 
-  module _ {e : Descriptor} (d : e ≡ described (get_or index t 0)) {s : Span} (q : s ≡ counted b e.own 1) (o : Octets b) where
+  module _ {e : Descriptor} (d : e ≡ descriptor_of (unpacked (get_or index t 0))) {s : Span} (q : s ≡ counted b e.own 1) (o : Octets b) where
     pub alternatives_below : (unpacked (get_or index t 0)).code ≡ untagged → below (table_in b) t ≡ every_at 1 b s.first s.count
-    unfolding described
     alternatives_below c =
         let y = (entry_at x.filled t x.there d).entered in
         rw q (entered_below y (code_none o y (x.filled.shaped t x.there) (rw d c)) (x.named.tagged t x.there))

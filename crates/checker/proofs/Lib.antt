@@ -12,4 +12,5 @@ mod Runs
 mod Shared
 mod Judged
 mod Marks
+mod Renumbering
 mod Ways

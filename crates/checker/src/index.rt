@@ -5,12 +5,13 @@ ghost use Rattle.octets.specs.Numbers.{Octets};
 ghost use Rattle.table.specs.declared.CheckCause.TheVariants.{TableShape};
 ghost use Rattle.table.specs.Reading.{record_end};
 ghost use Rattle.records.specs.Entries.{Filled, packed, outermost_in, all_but_last};
-ghost use Rattle.checker.specs.Index.{number_at, scanned, index_in};
+ghost use Rattle.checker.specs.Index.{number_at, scanned, index_in, renumbered};
 
 use crate::shape::record_end;
 use ber::identifier::code_of;
 use kinds::{Kind, constructed};
 use octets::{octet, two};
+use records::descriptor::number;
 use records::entry::{LACKING, UNTAGGED};
 use table::{CheckCause, Flaw};
 
@@ -45,7 +46,7 @@ fn outermost(table: &[u8], simple: bool, tags: u8, p: usize) -> u32
 fn explicit(kind: u8, tags: u8) -> u8
     ensures { result ≡ if (eqb kind 50) tags (λ _. all_but_last tags) }
 {
-    if kind == Kind::Choice as u8 {
+    if kind == Kind::Choice.octet() {
         return tags;
     }
     if tags == 0 {
@@ -112,4 +113,14 @@ pub(crate) fn fill(table: &[u8], index: &mut [u64; 128]) -> Result<usize, Flaw>
         at = end;
     }
     Err(misshapen(128))
+}
+
+// The first n numbers of an index become those of descriptors.
+pub(crate) fn renumber(index: &mut [u64; 128], n: usize)
+    requires { n ≤ 128 }
+    ensures { index.new ≡ renumbered n index.old }
+{
+    for t in 0..n {
+        index[t] = number(index[t]);
+    }
 }

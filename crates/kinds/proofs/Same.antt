@@ -1,20 +1,19 @@
 -- What equality of kinds says of their octets. The octet of a kind is no other's, and a number that is none of them counts as a message's.
 -- Assumes nothing.
-use Rattle.std.proofs.Common.{Bool, true, false, not, ◌||◌, ◌⊎◌, inl, inr, ℕ, List, [], ◌∷◌, ◌≡◌, ◌<◌, ◌≤◌, refl, sym, ◌∙◌, ap, eq-eqb, arith}
+use Rattle.std.proofs.Common.{Bool, true, false, not, ◌||◌, ◌⊎◌, inl, inr, ℕ, List, [], ◌∷◌, ◌≡◌, ◌↔◌, Option, Some, None, ◌<◌, refl, sym, ◌∙◌, ap, eq-eqb, arith}
 use mathlib.Core.Logic.{⊎_elim}
-use Rattle.octets.specs.Lists.{lowest_from}
+use mathlib.Core.Bool.{false≢true}
+use Rattle.std.specs.Prelude.{is_some, unwrap_or}
 use Rattle.octets.proofs.Tests.{test}
-use Rattle.octets.proofs.Search.{upto}
 use denote.Enum.Bare.{sameb}
 use denote.Enum.Declared.{tag_of}
 use borrow.Author.Tests.{ne_eqb, eqb-true, eqb-false, not-true, not-false}
 use lib.Dec.{eqb}
-use lib.ListN.{get_or}
 use Rattle.octets.proofs.Members.{or_right}
 use Rattle.kinds.specs.contracts.Kind.{the_type}
 use Rattle.kinds.specs.declared.Kind.{Kind}
 use Rattle.kinds.specs.declared.Kind.TheVariants.{Boolean, Integer, BitString, OctetString, Null, Enumerated, UtcTime, GeneralizedTime, Sequence, Set, SequenceOf, SetOf, Choice, Message}
-use Rattle.kinds.specs.Kinds.{octet_of, kinds, kind_at, kind_among, kind_of}
+use Rattle.kinds.specs.Kinds.{octet_of, place_of, kinds, kind_at, kind_among, kind_of}
 
 pub octet_back : (k : Kind) → kind_of (octet_of k) ≡ k
 unfolding kind_of
@@ -36,8 +35,7 @@ octet_back Message = refl
 pub same_kind : (j k : Kind) → octet_of j ≡ octet_of k → j ≡ k
 same_kind j k e = sym (octet_back j) ∙ ap kind_of e ∙ octet_back k
 
--- the kinds are told apart by their places
-kind_back : (k : Kind) → kind_at (tag_of the_type k) ≡ k
+pub kind_back : (k : Kind) → kind_at (place_of k) ≡ k
 unfolding kind_at
 kind_back Boolean = refl
 kind_back Integer = refl
@@ -54,15 +52,50 @@ kind_back SetOf = refl
 kind_back Choice = refl
 kind_back Message = refl
 
-same_place : (j k : Kind) → tag_of the_type j ≡ tag_of the_type k → j ≡ k
+pub place_low : (k : Kind) → place_of k < 256
+place_low Boolean = omega arith
+place_low Integer = omega arith
+place_low BitString = omega arith
+place_low OctetString = omega arith
+place_low Null = omega arith
+place_low Enumerated = omega arith
+place_low UtcTime = omega arith
+place_low GeneralizedTime = omega arith
+place_low Sequence = omega arith
+place_low Set = omega arith
+place_low SequenceOf = omega arith
+place_low SetOf = omega arith
+place_low Choice = omega arith
+place_low Message = omega arith
+
+tag_place : (k : Kind) → tag_of the_type k ≡ place_of k
+tag_place Boolean = refl
+tag_place Integer = refl
+tag_place BitString = refl
+tag_place OctetString = refl
+tag_place Null = refl
+tag_place Enumerated = refl
+tag_place UtcTime = refl
+tag_place GeneralizedTime = refl
+tag_place Sequence = refl
+tag_place Set = refl
+tag_place SequenceOf = refl
+tag_place SetOf = refl
+tag_place Choice = refl
+tag_place Message = refl
+
+same_place : (j k : Kind) → place_of j ≡ place_of k → j ≡ k
 same_place j k e = sym (kind_back j) ∙ ap kind_at e ∙ kind_back k
 
 module _ (j k : Kind) {r : Bool} (e : r ≡ sameb the_type j k) where
+  by_place : r ≡ eqb (place_of j) (place_of k)
+  by_place = rw (← tag_place j, ← tag_place k) e
+
   pub is_kind : r ≡ true → octet_of j ≡ octet_of k
-  is_kind t = ap octet_of (same_place j k (eqb-true _ _ (sym e ∙ t)))
+  is_kind t = ap octet_of (same_place j k (eqb-true _ _ (sym by_place ∙ t)))
 
   pub not_kind : r ≡ false → octet_of j ≡ octet_of k → ⊥
-  not_kind f q = eqb-false _ _ (sym e ∙ f) (ap (tag_of the_type) (same_kind j k q))
+  not_kind f q = eqb-false _ _ (sym by_place ∙ f) (ap place_of (same_kind j k q))
 
 module _ (j k : Kind) {r : Bool} (e : r ≡ not (sameb the_type j k)) where
   pub is_other : r ≡ true → octet_of j ≡ octet_of k → ⊥
@@ -83,36 +116,10 @@ module _ (n : ℕ) where
       test (eqb n 51) (λ e. rw (eqb-true n 51 e) (inl refl)) λ e.
       ⊎_elim inl (λ m. inr (m, λ k q. eqb-false n 51 e (sym q ∙ ap octet_of (sym (octet_back k) ∙ ap kind_of q ∙ m)))) (among n kinds)
 
--- the place of the kind that each octet counts as, by computing each
-abbrev places : List ℕ
-places =
-    13 ∷ 0 ∷ 1 ∷ 2 ∷ 3 ∷ 4 ∷ 13 ∷ 13 ∷ 13 ∷ 13 ∷ 5 ∷ 13 ∷ 13 ∷ 13 ∷ 13 ∷ 13 ∷ 8 ∷ 9 ∷ 13 ∷ 13 ∷ 13 ∷ 13 ∷ 13 ∷ 6 ∷ 7 ∷ 13 ∷ 13 ∷ 13 ∷ 13 ∷ 13 ∷ 13 ∷ 13 ∷ 13 ∷ 13 ∷ 13 ∷ 13 ∷
-    13 ∷ 13 ∷ 13 ∷ 13 ∷ 13 ∷ 13 ∷ 13 ∷ 13 ∷ 13 ∷ 13 ∷ 13 ∷ 13 ∷ 10 ∷ 11 ∷ 12 ∷ 13 ∷ []
-
-pub placed : (n : ℕ) → n < 52 → kind_at (get_or places n 0) ≡ kind_of n
-unfolding lowest_from kind_at kind_of
-placed n h =
-    same_kind _ _ (eqb-true _ _
-    (not-false _ (upto (λ i. not (eqb (octet_of (kind_at (get_or places i 0))) (octet_of (kind_of i)))) 52 refl n h)))
-
-pub beyond : (n : ℕ) → 52 ≤ n → Message ≡ kind_of n
-beyond n h = ⊎_elim (λ e. absurd (high (kind_of n) e)) (λ m. sym m.0) (counts_as n)
-  where
-    high : (k : Kind) → octet_of k ≡ n → ⊥
-    high Boolean e = omega (arith, e)
-    high Integer e = omega (arith, e)
-    high BitString e = omega (arith, e)
-    high OctetString e = omega (arith, e)
-    high Null e = omega (arith, e)
-    high Enumerated e = omega (arith, e)
-    high UtcTime e = omega (arith, e)
-    high GeneralizedTime e = omega (arith, e)
-    high Sequence e = omega (arith, e)
-    high Set e = omega (arith, e)
-    high SequenceOf e = omega (arith, e)
-    high SetOf e = omega (arith, e)
-    high Choice e = omega (arith, e)
-    high Message e = omega (arith, e)
+  -- what `of` finds, and a message where it finds none
+  pub or_message : (x : Option Kind) → ((k : Kind) → (x ≡ Some k) ↔ (octet_of k ≡ n)) → unwrap_or x Message ≡ kind_of n
+  or_message (Some k) h = sym (octet_back k) ∙ ap kind_of ((h k).0 refl)
+  or_message None h = ⊎_elim (λ e. absurd (false≢true (ap is_some ((h (kind_of n)).1 e)))) (λ m. sym m.0) counts_as
 
 -- an octet that no kind has is none of theirs
 pub no_octet : (n : ℕ) → ((k : Kind) → octet_of k ≡ n → ⊥)

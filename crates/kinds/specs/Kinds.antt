@@ -1,4 +1,4 @@
--- The octet of each kind in tables and values, and the kind that an octet counts as (FORMATS, "Tables").
+-- The octet of each kind in tables and values, its place among the kinds, and the kind that an octet counts as (FORMATS, "Tables").
 -- Assumes nothing.
 use Rattle.std.specs.Prelude.{List, [], ◌∷◌, ℕ, eqb, get_or}
 use Rattle.octets.specs.Tests.{if}
@@ -21,6 +21,23 @@ octet_of SequenceOf = 48
 octet_of SetOf = 49
 octet_of Choice = 50
 octet_of Message = 51
+
+-- the kinds are numbered from 0
+abbrev pub place_of : Kind → ℕ
+place_of Boolean = 0
+place_of Integer = 1
+place_of BitString = 2
+place_of OctetString = 3
+place_of Null = 4
+place_of Enumerated = 5
+place_of UtcTime = 6
+place_of GeneralizedTime = 7
+place_of Sequence = 8
+place_of Set = 9
+place_of SequenceOf = 10
+place_of SetOf = 11
+place_of Choice = 12
+place_of Message = 13
 
 -- those of records, by their places
 abbrev pub kinds : List Kind

@@ -70,7 +70,7 @@ module _ {b ix : List ℕ} (R : Ready b ix) where
       let y = bare (T x) (F x) e in
       let w = entered_choice (described_in R x h).entered y.alternatives y.is in
       let o = (described (get_or ix x 0)).own in
-      let l = R.filled.short in
+      let l = R.listed.short in
       let p : siblings (T x).body ≡ y.alternatives = ap siblings y.is in
       rw q
       (record {

@@ -93,7 +93,7 @@ module _ {b index : List ℕ} (R : Ready b index) {w : ℕ} (I : IsRecord b inde
   its_kind = entered_kind (its_entry R I).entered ∙ ap (λ (x : Record). kind x.body) (sym (its_record R I))
 
   pub its_holder : held b w ≡ inside r.body
-  its_holder = held_body (its_entry R I) R.filled.short ∙ ap (λ (x : Record). inside x.body) (sym (its_record R I))
+  its_holder = held_body (its_entry R I) R.listed.short ∙ ap (λ (x : Record). inside x.body) (sym (its_record R I))
 
   few_members : (y : Body) → (table_in b I.0).body ≡ y → length (members y) ≤ 16
   unfolding members

@@ -57,7 +57,7 @@ pub good_held : {b index : List ℕ} → Ready b index → (w : ℕ) → Known b
 unfolding GoodHolder holder_in if
 good_held {b} R w (of_record t h q) =
     let x = described_in R t h in
-    rw (q, held_body x R.filled.short) (good b (table_in b) (count_in b) R.passes t).apart
+    rw (q, held_body x R.listed.short) (good b (table_in b) (count_in b) R.passes t).apart
 good_held R w (of_message t h q) = rw q tt
 
 module _ {b index : List ℕ} {w : ℕ} {came : List ℕ} {e : Descriptor} {s : Span} (D : Parted b index w came e s)

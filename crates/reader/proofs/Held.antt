@@ -75,7 +75,7 @@ module _ {b index : List ℕ} (R : Ready b index) {w : ℕ} (K : Known b index w
           let x = described_in R t h in
           let c = not-false (constructed (table_in b t).body) (sym x.entered.simple ∙ rw q at n) in
           let y = kind_inside (table_in b t).body c in
-          rw (q, held_body x R.filled.short) (entered_kind x.entered ∙ y.0, y.1)
+          rw (q, held_body x R.listed.short) (entered_kind x.entered ∙ y.0, y.1)
       go (of_message t h q) n = rw q (refl, refl)
 
   pub held_some : is_plain (held b w) ≡ false

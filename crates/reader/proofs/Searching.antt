@@ -73,7 +73,7 @@ module _ {b index : List ℕ} (R : Ready b index) where
   unfolding holder_in if parts_of
   part_low w (of_record t h q) k m l e =
       let x = described_in R t h in
-      low_record t h k m l (rw (q, held_body x R.filled.short) at e)
+      low_record t h k m l (rw (q, held_body x R.listed.short) at e)
   part_low w (of_message t h q) k m l e = let z = only_one t k m l (rw q at e) in rw z h
 
 -- a list from a place on

@@ -242,7 +242,7 @@ module _ {b index : List ℕ} (R : Ready b index) where
   entry_record : (t : ℕ) → t < count_in b → EntryOf b (described (get_or index t 0))
   entry_record t h =
       let x = described_in R t h in
-      let l = R.filled.short in
+      let l = R.listed.short in
       record {
         spanned = rw (held_body x l) (spanned_body x l (table_in b t).body refl);
         sequence = rw (held_body x l) (ap (λ (k : ℕ). eqb k 16) (entered_kind x.entered) ∙ turn_kind (table_in b t).body);

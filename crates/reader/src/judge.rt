@@ -28,8 +28,7 @@ use ber::{ending, length};
 use checker::passed::Passed;
 use coding::LEVELS;
 use kinds::Kind;
-use records::descriptor::{Descriptor, describe, parts};
-use records::entry::whole;
+use records::descriptor::{Descriptor, describe, parts, whole};
 use x690::{ReadingCause, Unread};
 
 // Where other octets begin, if the contents m of w are over at a place; none if an item follows. 00 00 closes them if `indefinite`. Awaited

@@ -18,8 +18,7 @@ use crate::tags::{Inner, close, open};
 use ber::{ending, length};
 use checker::passed::Passed;
 use kinds::Kind;
-use records::descriptor::{describe, parts};
-use records::entry::whole;
+use records::descriptor::{describe, parts, whole};
 
 // The value of w at a place of m: explicit tags, length, and contents, simple ones or items. Its first identifier ends at `from`.
 #[cycle(place_members_place_value)]

@@ -1,13 +1,11 @@
 -- A descriptor says of its record what the entry says.
 -- Assumes nothing.
-use mathlib.Core.Bool.{false}
 use mathlib.Core.List.{List}
 use mathlib.Core.Logic.{⊎_elim}
-use mathlib.Core.Path.{◌≡◌, refl, sym, ap, subst}
+use mathlib.Core.Path.{◌≡◌, refl, sym, subst}
 use Prim.Native.Nat.{ℕ}
 use Rattle.table.specs.Syntax.{Record}
 use Rattle.kinds.specs.Kinds.{octet_of, kind_of}
-use Rattle.kinds.specs.declared.Kind.TheVariants.{Message}
 use Rattle.kinds.proofs.Same.{no_octet, counts_as}
 use Rattle.records.specs.Entries.{unpacked, tag_count, span_of, Entered}
 use Rattle.records.specs.Descriptors.{descriptor_of, entry_of, described, Describes}
@@ -34,16 +32,10 @@ count_kept e =
 entry_back : (e : Entry) → octet_of (kind_of e.kind) ≡ e.kind → entry_of (descriptor_of e) ≡ e
 entry_back e q = λ i. record { code = e.code; own = e.own; kind = q i; explicit = e.explicit; simple = e.simple }
 
-pub describes : {b : List ℕ} (w : ℕ) {r : Record} → Entered b (unpacked w) r → Describes b (described w) r
-unfolding described
+pub describes : {b : List ℕ} (w : ℕ) {r : Record} → Entered b (unpacked w) r → Describes b (descriptor_of (unpacked w)) r
 describes {b} w {r} x = record { entered = subst (λ e. Entered b e r) (sym (entry_back (unpacked w) (entered_known x))) x }
 
--- what `first` and `whole` say of an entry, of what it describes
+-- the code alone is at the same place in both numbers
 pub first_described : (w : ℕ) → (unpacked w).code ≡ (described w).code
-unfolding described
+unfolding unpacked described
 first_described w = refl
-
-pub whole_described : (w : ℕ) {t : ℕ} → unpacked w ≡ record { code = 0; own = t; kind = 51; explicit = 0; simple = false }
-    → described w ≡ record { code = 0; own = t; kind = Message; explicit = 0; simple = false }
-unfolding described kind_of
-whole_described w e = ap (λ (x : Entry). descriptor_of x) e

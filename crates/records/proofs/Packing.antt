@@ -1,13 +1,17 @@
 -- An entry as one number: each part is below the unit of the next, so that quotients and remainders give the parts back.
 -- Assumes nothing.
 use mathlib.Core.Bool.{Bool, true, false}
-use mathlib.Core.Path.{◌≡◌, sym, ◌∙◌}
+use mathlib.Core.Path.{◌≡◌, refl, sym, ◌∙◌, ap}
 use Prim.Native.Nat.{ℕ, ◌+◌, ◌*◌, ◌/◌, ◌%◌, ◌<◌}
 use native.Mathlib.Omega.{arith}
 use native.Mathlib.Nat.{mul-add-div_right, div-eq_of_lt, mul-add-mod_self_right, mod-eq_of_lt, div-div-eq-div-mul}
 use lib.Dec.{leb}
-use borrow.Author.Tests.{le-leb, lt-leb}
+use borrow.Author.Tests.{le-leb, lt-leb, leb-true, leb-false}
+use Rattle.octets.proofs.Tests.{test}
+use Rattle.kinds.specs.Kinds.{place_of, kind_at, kind_of}
+use Rattle.kinds.proofs.Same.{place_low, kind_back}
 use Rattle.records.specs.Entries.{unpacked, high_octet, packed}
+use Rattle.records.specs.Descriptors.{descriptor_of, described, number_of}
 use Rattle.records.specs.declared.entry.Entry.{Entry}
 
 -- what stands above a unit m, and what below it
@@ -59,3 +63,40 @@ unpacks e h h₁ h₂ h₃ =
     rw (above_kind high e.kind e.own e.code h₁ h₂ h₃) (high_explicit e.simple e.explicit h) in
     let u = high_simple e.simple e.explicit e.kind e.own e.code h h₁ h₂ h₃ in
     λ i. record { code = p i; own = q i; kind = r i; explicit = t i; simple = u i }
+
+-- the parts of a number, and each with another kind in the place of its own
+module _ (w : ℕ) where
+  parted : w ≡ number (w / 72057594037927936) (w / 281474976710656 % 256) (w / 4294967296 % 65536) (w % 4294967296)
+  parted = omega arith
+
+simple_by : (high kind own code : ℕ) → kind < 256 → own < 65536 → code < 4294967296
+    → leb 9223372036854775808 (number high kind own code) ≡ leb 128 high
+simple_by high kind own code h₁ h₂ h₃ =
+    test (leb 128 high) (λ e. le-leb 9223372036854775808 (number high kind own code) (let f = leb-true 128 high e in omega arith) ∙ sym e)
+    λ e. lt-leb 9223372036854775808 (number high kind own code) (let f = leb-false 128 high e in omega arith) ∙ sym e
+
+pub describes_number : (high kind own code : ℕ) → kind < 256 → own < 65536 → code < 4294967296
+    → described (number high kind own code) ≡ record { code = code; own = own; kind = kind_at kind; explicit = high % 128; simple = leb 128 high }
+unfolding described
+describes_number high kind own code h₁ h₂ h₃ =
+    let p : number high kind own code % 4294967296 ≡ code = lower ((high * 256 + kind) * 65536 + own) 4294967296 code h₃ in
+    let q : number high kind own code / 4294967296 % 65536 ≡ own = rw (above_code high kind own code h₁ h₂ h₃) (lower (high * 256 + kind) 65536 own h₂) in
+    let r : number high kind own code / 281474976710656 % 256 ≡ kind = rw (above_own high kind own code h₁ h₂ h₃) (lower high 256 kind h₁) in
+    let t : number high kind own code / 72057594037927936 % 128 ≡ high % 128 = rw (above_kind high kind own code h₁ h₂ h₃) refl in
+    let u = simple_by high kind own code h₁ h₂ h₃ in
+    λ i. record { code = p i; own = q i; kind = kind_at (r i); explicit = t i; simple = u i }
+
+-- a number with the place of the kind for its octet
+module _ (w : ℕ) where
+  pub renumbered : described (number_of w) ≡ descriptor_of (unpacked w)
+  unfolding unpacked number_of
+  renumbered =
+      let high = w / 72057594037927936 in
+      let own = w / 4294967296 % 65536 in
+      let code = w % 4294967296 in
+      let k = kind_of (w / 281474976710656 % 256) in
+      let n : (high * 256 + place_of k) * 281474976710656 + w % 281474976710656 ≡ number high (place_of k) own code = omega arith in
+      let s : leb 9223372036854775808 w ≡ leb 128 high
+      = ap (leb 9223372036854775808) (parted w) ∙ simple_by high (w / 281474976710656 % 256) own code (omega arith) (omega arith) (omega arith) in
+      let d = describes_number high (place_of k) own code (place_low k) (omega arith) (omega arith) in
+      ap (λ (x : ℕ). described x) n ∙ d ∙ λ i. record { code = code; own = own; kind = kind_back k i; explicit = high % 128; simple = sym s i }

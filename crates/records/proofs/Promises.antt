@@ -1,6 +1,6 @@
 -- What the crates above may use of entries beside the contracts of the functions. No other law of this crate is for them.
 -- Assumes nothing.
-use mathlib.Core.Bool.{false, not, ◌||◌}
+use mathlib.Core.Bool.{not, ◌||◌}
 use mathlib.Core.List.{List}
 use mathlib.Core.Logic.{◌⊎◌}
 use mathlib.Core.Path.{◌≡◌}
@@ -12,12 +12,12 @@ use Rattle.table.specs.Syntax.{Tag, Member, Enumerated, Plain, Sequence, Set, Se
 use Rattle.table.specs.Octets.{kind}
 use Rattle.table.specs.Reading.{every_at}
 use Rattle.kinds.specs.Kinds.{octet_of, kind_of}
-use Rattle.kinds.specs.declared.Kind.TheVariants.{Message}
 use Rattle.records.specs.Entries.{unpacked, tag_count, tag_place, span_of, Entered, WithMembers, WithAlternatives, WithElements, WithNumbers}
-use Rattle.records.specs.Descriptors.{described, Describes}
+use Rattle.records.specs.Descriptors.{descriptor_of, described, number_of, Describes}
 use Rattle.records.specs.declared.entry.Entry.{Entry}
 use Rattle.records.proofs.Entries as entries
 use Rattle.records.proofs.Descriptors as descriptors
+use Rattle.records.proofs.Packing as packing
 
 -- An entry and its record: the kind by which the body goes, and its parts, which lie within the octets.
 
@@ -62,14 +62,13 @@ module _ {b : List ℕ} {e : Entry} {r : Record} (x : Entered b e r) where
       → (ltb j e.explicit || not e.simple) ≡ (ltb (j + 1) (length r.tags) || constructed r.body)
   entered_bit = entries.entered_bit x
 
--- What a number of the index describes is of the entry's record.
+-- The descriptor of an entry is of the entry's record, and so is that of its number.
 
-pub describes : {b : List ℕ} (w : ℕ) {r : Record} → Entered b (unpacked w) r → Describes b (described w) r
+pub describes : {b : List ℕ} (w : ℕ) {r : Record} → Entered b (unpacked w) r → Describes b (descriptor_of (unpacked w)) r
 describes = descriptors.describes
 
 pub first_described : (w : ℕ) → (unpacked w).code ≡ (described w).code
 first_described = descriptors.first_described
 
-pub whole_described : (w : ℕ) {t : ℕ} → unpacked w ≡ record { code = 0; own = t; kind = 51; explicit = 0; simple = false }
-    → described w ≡ record { code = 0; own = t; kind = Message; explicit = 0; simple = false }
-whole_described = descriptors.whole_described
+pub renumbered : (w : ℕ) → described (number_of w) ≡ descriptor_of (unpacked w)
+renumbered = packing.renumbered

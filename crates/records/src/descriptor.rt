@@ -1,13 +1,14 @@
 // Entries whose kind is known: what is looked up of a record by what its entry describes (FORMATS, "Tables"). Every function is total.
-ghost use Rattle.std.specs.Prelude.{◌≡◌, not, ◌&&◌, ◌||◌, ◌<◌, ◌+◌, ◌*◌, eqb, leb, ltb, length, get_or};
+ghost use Rattle.std.specs.Prelude.{◌≡◌, false, not, ◌&&◌, ◌||◌, ◌<◌, ◌+◌, ◌*◌, eqb, leb, ltb, length, get_or};
 ghost use Rattle.octets.specs.Numbers.{two};
 ghost use Rattle.ber.specs.Codes.{code};
 ghost use Rattle.table.specs.Reading.{numbers_at};
 ghost use Rattle.kinds.specs.Kinds.{octet_of};
-ghost use Rattle.records.specs.Entries.{tag_count, tag_place, counted as Entries·counted, span_of, lists_number};
-ghost use Rattle.records.specs.Descriptors.{descriptor_of, entry_of, described};
+ghost use Rattle.kinds.specs.declared.Kind.TheVariants.{Message};
+ghost use Rattle.records.specs.Entries.{unpacked, tag_count, tag_place, counted as Entries·counted, span_of, lists_number};
+ghost use Rattle.records.specs.Descriptors.{descriptor_of, entry_of, described, number_of};
 
-use crate::entry::{Entry, LACKING, Span, counted, unpack};
+use crate::entry::{Entry, LACKING, Span, counted, first, unpack};
 use ber::identifier::code_of;
 use kinds::Kind;
 use octets::{holds, octet, two};
@@ -22,7 +23,8 @@ pub struct Descriptor {
     pub simple: bool,
 }
 
-// Of an entry; an octet that no record's kind has counts as a message's.
+// Of an entry; an octet that no kind has counts as a message's.
+#[inline(always)]
 pub fn of(e: Entry) -> Descriptor
     ensures { result ≡ descriptor_of e }
 {
@@ -35,12 +37,44 @@ pub fn of(e: Entry) -> Descriptor
     }
 }
 
-// Of a number of the index.
-#[tactic(auto, unfolding(crate::specs::Descriptors::described))]
+// Of a number of the index, which is that of an entry.
+#[inline(always)]
+pub fn of_number(w: u64) -> Descriptor
+    ensures { result ≡ descriptor_of (unpacked w) }
+{
+    of(unpack(w))
+}
+
+// That descriptor as a number, with the place of the kind where its octet stood: a compiler makes the kind of a place by one comparison, and
+// reading and writing take a descriptor apart for every item.
+#[tactic(auto, unfolding(crate::specs::Descriptors::number_of))]
+pub fn number(w: u64) -> u64
+    ensures { result ≡ number_of w }
+{
+    let high = w / 72057594037927936;
+    let kind = Kind::or_message((w / 281474976710656 % 256) as u8);
+    (high * 256 + kind.place() as u64) * 281474976710656 + w % 281474976710656
+}
+
+// The descriptor of such a number.
+#[tactic(auto, unfolding(crate::specs::Descriptors::described, crate::specs::Entries::unpacked))]
 pub fn describe(w: u64) -> Descriptor
     ensures { result ≡ described w }
 {
-    of(unpack(w))
+    Descriptor {
+        code: first(w),
+        own: (w / 4294967296 % 65536) as u16,
+        kind: Kind::at((w / 281474976710656 % 256) as u8),
+        explicit: (w / 72057594037927936 % 128) as u8,
+        simple: 9223372036854775808 <= w,
+    }
+}
+
+// The number of the descriptor of a message of type t, in which one item stands.
+pub fn whole(t: u16) -> u64
+    ensures { described result ≡ record { code = 0; own = t; kind = Message; explicit = 0; simple = false } }
+{
+    (Kind::Message.place() as u64 * 65536 + t as u64) * 4294967296
 }
 
 // How many tags it has.

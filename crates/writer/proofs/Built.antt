@@ -89,10 +89,10 @@ module _ {b index v : List ℕ} {t at : ℕ} (N : Node b index v t at) (n : ℕ)
     built_level z l = (value_level T t v at within n shaped _ z, noting_none at l ValueLevel at (λ m. Noted T v m n t at))
 
     is_known : Known b E
-    is_known = known b index N.ready.filled t N.there
+    is_known = known b index N.ready.listed t N.there
 
     is_record : record_in b E ≡ T t
-    is_record = known_record b index N.ready.filled t N.there
+    is_record = known_record b index N.ready.listed t N.there
 
     module _ (z : n ≡ 0 → ⊥) (r : Bool) (er : r ≡ agrees (record_in b E).body (node_of (octet_of E.kind) v (at + 3))) where
       agreed : (w : Bool) → r ≡ w → agrees (T t).body (node_at v at) ≡ w

@@ -1,4 +1,4 @@
--- The records of an index that is filled, and what a table that passes promises of their tags.
+-- The records of an index that lists their descriptors, and what a table that passes promises of their tags.
 -- Assumes nothing.
 use mathlib.Core.Bool.{true}
 use mathlib.Core.List.{List}
@@ -13,10 +13,10 @@ use Rattle.table.specs.Octets.{record_shaped}
 use Rattle.table.specs.Reading.{tags_at, table_in, count_in}
 use Rattle.table.specs.Rules.{missing}
 use Rattle.table.specs.Passes.{Passes}
-use Rattle.records.specs.Entries.{tag_count, Entered, Filled}
-use Rattle.records.specs.Descriptors.{entry_of, described}
+use Rattle.records.specs.Entries.{tag_count, Entered}
+use Rattle.records.specs.Descriptors.{entry_of, described, Listed}
 use Rattle.records.specs.declared.descriptor.Descriptor.{Descriptor}
-use Rattle.records.proofs.Promises.{entered_tags, describes}
+use Rattle.records.proofs.Promises.{entered_tags}
 use Rattle.checker.proofs.Ready.{Ready}
 use Rattle.writer.specs.Known.{record_in, Known}
 use Rattle.writer.proofs.Frames.{Tagged}
@@ -31,12 +31,12 @@ module _ (b : List ℕ) (e : Descriptor) (r : Record) (x : Entered b (entry_of e
   known_by s = record { entered = rw record_is x; shaped = rw record_is s }
 
 -- the entry of record t
-module _ (b index : List ℕ) (F : Filled b index (count_in b)) (t : ℕ) (h : t < count_in b) where
+module _ (b index : List ℕ) (F : Listed b index (count_in b)) (t : ℕ) (h : t < count_in b) where
   pub known : Known b (described (get_or index t 0))
-  known = known_by b (described (get_or index t 0)) (table_in b t) (describes _ (F.entered t h)).entered (F.shaped t h)
+  known = known_by b (described (get_or index t 0)) (table_in b t) (F.describes t h).entered (F.shaped t h)
 
   pub known_record : record_in b (described (get_or index t 0)) ≡ table_in b t
-  known_record = record_is b (described (get_or index t 0)) (table_in b t) (describes _ (F.entered t h)).entered
+  known_record = record_is b (described (get_or index t 0)) (table_in b t) (F.describes t h).entered
 
 -- what the check of a table promises of tags
 passes_tagged : (b : List ℕ) (T : Table) (n : ℕ) → Passes b T n → Tagged T

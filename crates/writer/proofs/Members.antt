@@ -175,10 +175,10 @@ module _ {b index v : List ℕ} {e : Descriptor} {p n : ℕ} {first : List ℕ} 
   -- its entry x: it is a leaf, or a constructed node
   module _ (x : Descriptor) (ex : x ≡ described (get_or index m.t 0)) where
     pub entry_known : Known b x
-    entry_known = rw ex (known b index m.ready.filled m.t member_there)
+    entry_known = rw ex (known b index m.ready.listed m.t member_there)
 
     entry_record : record_in b x ≡ T m.t
-    entry_record = rw ex (known_record b index m.ready.filled m.t member_there)
+    entry_record = rw ex (known_record b index m.ready.listed m.t member_there)
 
     pub member_not_awaited : (get_or v (m.at + 2) 0 ≡ octet_of x.kind → ⊥) → (c : JudgingCause)
         → ((T : Table) (t : ℕ) → (get_or v (m.at + 2) 0 ≡ kind (T t).body → ⊥) → unfit c m.at ≡ told (contents_form T (n - 1) (T t).body) v (judge_value T n t (drop m.at v)))

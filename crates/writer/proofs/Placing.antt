@@ -140,10 +140,10 @@ module _ {b index v notes : List ℕ} {e : Descriptor} {p to : ℕ} {first : Lis
   put_there = put_type X m.i m.t m.one m.is m.there
 
   pub put_known : Known b m.x
-  put_known = rw m.entry (known b index m.ready.filled m.t put_there)
+  put_known = rw m.entry (known b index m.ready.listed m.t put_there)
 
   is_record : record_in b m.x ≡ T m.t
-  is_record = rw m.entry (known_record b index m.ready.filled m.t put_there)
+  is_record = rw m.entry (known_record b index m.ready.listed m.t put_there)
 
   ok : Accepted T X.level m.t v m.at
   ok = now_accepted turn

@@ -21,8 +21,7 @@ use crate::{contents, frame, node};
 use checker::passed::Passed;
 use coding::{JudgingCause, LEVELS, Unfit};
 use kinds::Kind;
-use records::descriptor::{Descriptor, describe, lists, parts};
-use records::entry::whole;
+use records::descriptor::{Descriptor, describe, lists, parts, whole};
 
 // Where a part of the value ends, and how many octets are written of it, to 8,193.
 #[derive(Clone, Copy, Debug, PartialEq, Eq)]

@@ -9,8 +9,7 @@ ghost use Rattle.writer.specs.Putting.{Fits, IsPut, Puts, PutBy};
 
 use crate::{contents, frame, node};
 use checker::passed::Passed;
-use records::descriptor::{describe, parts};
-use records::entry::whole;
+use records::descriptor::{describe, parts, whole};
 
 // Where values end, and where what was put of them ends in the buffer.
 #[derive(Clone, Copy, Debug, PartialEq, Eq)]

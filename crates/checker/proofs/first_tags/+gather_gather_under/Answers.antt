@@ -44,7 +44,7 @@ gather_under-loop-at-init t c =
     let q : s.first + s.count - s.first ≡ s.count = omega arith in (
       c.told-flags,
       omega arith,
-      rw q (going_from _ (alternatives_below (gathers_of c.args.w.now.filled c.args.w.now.ready c.args.w.now.named c.told-flags c.requires.0) c.describe.ensures c.alternatives-s.ensures c.args.w.now.octets c.requires.1)),
+      rw q (going_from _ (alternatives_below (gathers_of c.args.w.now.filled c.args.w.now.ready c.args.w.now.named c.told-flags c.requires.0) c.of_number.ensures c.alternatives-s.ensures c.args.w.now.octets c.requires.1)),
     )
 
 pub gather_under-gather-requires : goal.gather_under-gather-requires
@@ -72,4 +72,4 @@ pub gather_under-returns : goal.gather_under-returns
 gather_under-returns t c = under_done _ _ _ _ _ _ _ c.loop-at.invariant.2 (omega arith) c.loop-at.invariant.1
 
 pub gather_under-overflow_add-at-end : goal.gather_under-overflow_add-at-end
-gather_under-overflow_add-at-end t c = rw c.alternatives-s.ensures (omega (arith, c.args.w.now.octets c.describe.result.own))
+gather_under-overflow_add-at-end t c = rw c.alternatives-s.ensures (omega (arith, c.args.w.now.octets c.of_number.result.own))

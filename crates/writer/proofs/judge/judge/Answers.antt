@@ -4,7 +4,6 @@ use Rattle.std.proofs.Common.{ap}
 use Rattle.kinds.specs.Kinds.{octet_of}
 use Rattle.records.specs.Descriptors.{described}
 use Rattle.records.specs.declared.descriptor.Descriptor.{Descriptor}
-use Rattle.records.proofs.Promises.{whole_described}
 use Rattle.writer.proofs.Whole.{whole_stands, whole_said}
 use Rattle.writer.proofs.judge.judge.Goals as goal
 
@@ -14,8 +13,8 @@ judge_members-requires c =
     let q = c.requires in
     let y = a.table.now in (
       q.0,
-      whole_stands y.octets.now a.v.now y.filled.few a.t q.1 (described c.whole.result) (ap (λ (x : Descriptor). octet_of x.kind) (whole_described _ c.whole.ensures))
-          (ap (λ (x : Descriptor). x.own) (whole_described _ c.whole.ensures)),
+      whole_stands y.octets.now a.v.now y.listed.few a.t q.1 (described c.whole.result) (ap (λ (x : Descriptor). octet_of x.kind) c.whole.ensures)
+          (ap (λ (x : Descriptor). x.own) c.whole.ensures),
     )
 
 pub returns : goal.returns
@@ -23,5 +22,5 @@ returns c =
     let a = c.args in
     let q = c.requires in
     let y = a.table.now in
-    whole_said y.octets.now a.v.now y.filled.few a.t q.1 (described c.whole.result) (ap (λ (x : Descriptor). octet_of x.kind) (whole_described _ c.whole.ensures))
-    (ap (λ (x : Descriptor). x.own) (whole_described _ c.whole.ensures)) 24 a.notes.now _ _ c.judge_members.ensures
+    whole_said y.octets.now a.v.now y.listed.few a.t q.1 (described c.whole.result) (ap (λ (x : Descriptor). octet_of x.kind) c.whole.ensures)
+    (ap (λ (x : Descriptor). x.own) c.whole.ensures) 24 a.notes.now _ _ c.judge_members.ensures
