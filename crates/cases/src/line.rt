@@ -47,18 +47,19 @@ fn put_answer(line: &mut Line, number: u64, answer: Result<usize, Refusal>, buf:
     }
 }
 
-// Says that a case is cut.
-pub fn say_cut<W: Write>(output: &mut W, number: u64) -> io::Result<()>
+// Says that a case is cut, in a line that is lent.
+pub fn say_cut<W: Write>(output: &mut W, line: &mut Line, number: u64) -> io::Result<()>
     ensures { OnOk result (Appends (W.contents output.old) (W.contents output.new) (cut_line number)) }
 {
-    let mut line = Line::new();
-    put_cut(&mut line, number);
+    line.clear();
+    put_cut(line, number);
     output.write_all(line.octets())
 }
 
-// Says what is answered to a case.
+// Says what is answered to a case, in a line that is lent.
 pub fn say<W: Write>(
     output: &mut W,
+    line: &mut Line,
     number: u64,
     answer: Result<usize, Refusal>,
     buf: &[u8; 16384],
@@ -66,7 +67,7 @@ pub fn say<W: Write>(
     ensures { OnOk result (Appends (W.contents output.old) (W.contents output.new)
         (output_line number answer buf.now)) }
 {
-    let mut line = Line::new();
-    put_answer(&mut line, number, answer, buf);
+    line.clear();
+    put_answer(line, number, answer, buf);
     output.write_all(line.octets())
 }

@@ -44,6 +44,12 @@ impl Line {
         }
     }
 
+    pub fn clear(&mut self)
+        ensures { self.new ≡ [] }
+    {
+        self.len = 0;
+    }
+
     pub fn octets(&self) -> &[u8]
         ensures { result.now ≡ self.now }
     {
