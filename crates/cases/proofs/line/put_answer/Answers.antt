@@ -1,17 +1,18 @@
 -- `cases::line::put_answer`: the line of each answer.
 -- Assumes nothing.
 use Rattle.std.proofs.Common.{rules, arith}
+use lib.ListN.{length-append}
 use Rattle.std.proofs.lemmas.List.{take_min}
 use Rattle.cases.specs.Output.{output_line}
 use Rattle.cases.proofs.Lines.{refused_whole}
-use Rattle.cases.proofs.Lengths.{refused_length}
+use Rattle.cases.proofs.Lengths.{decimal_length}
 use Rattle.cases.proofs.line.put_answer.Goals as goal
 
 pub writeln-requires : goal.writeln-requires
 writeln-requires c =
     let r = c.report_of-report.result in
-    rw (c.requires, refused_whole c.args.number r.number r.place)
-    (omega (arith, refused_length c.args.number r.number r.place c.ranges.number.fits (search rules) (search rules)))
+    rw c.requires
+    (simp length-append (omega (arith, decimal_length c.args.number c.ranges.number.fits, decimal_length r.number (search rules), decimal_length r.place (search rules))))
 
 pub returns-in-Ok : goal.returns-in-Ok
 unfolding output_line
