@@ -1,5 +1,4 @@
-// A line in a buffer of fixed size, and the texts that `write!` and `writeln!` put into it. Putting one cannot fail, as
-// `fmt::Display` can, and wants room for the text.
+// A line in a buffer of fixed size, and what `write!` and `writeln!` put into it. That wants room, and cannot fail, as a text by `fmt::Display` can.
 ghost use Rattle.std.specs.Prelude.{◌≡◌, ℕ, ◌+◌, ◌*◌, ◌<◌, ◌≤◌, List, [], ◌∷◌, ◌++◌, length, take};
 ghost use Rattle.std.specs.Fmt.{format_pieces};
 ghost use Rattle.cases.specs.Output.{longest, digit, decimal, hexadecimal};
@@ -25,7 +24,7 @@ impl Model for Line {
     ghost invariant = { λ l. l.len ≤ 32793 };
 }
 
-// What can be put into a line.
+// What can be put into a line: a piece of a format, or its pieces one after another.
 pub trait Text {
     ghost text: { Self → List ℕ };
 
@@ -35,6 +34,7 @@ pub trait Text {
 }
 
 impl Line {
+    // An empty line.
     pub fn new() -> Line
         ensures { result ≡ [] }
     {
@@ -44,18 +44,21 @@ impl Line {
         }
     }
 
+    // Makes the line empty.
     pub fn clear(&mut self)
         ensures { self.new ≡ [] }
     {
         self.len = 0;
     }
 
+    // The octets of the line.
     pub fn octets(&self) -> &[u8]
         ensures { result.now ≡ self.now }
     {
         &self.octets[..self.len]
     }
 
+    // Puts octets as they are.
     fn push(&mut self, text: &[u8])
         requires { length self.old + length text.now ≤ longest }
         ensures { self.new ≡ self.old ++ text.now }
@@ -65,6 +68,7 @@ impl Line {
         self.len = end;
     }
 
+    // Puts a number in decimal.
     fn push_decimal(&mut self, n: u64)
         requires { length self.old + length (decimal n) ≤ longest }
         ensures { self.new ≡ self.old ++ decimal n }
@@ -82,6 +86,7 @@ impl Line {
         self.push(&digits[at..]);
     }
 
+    // Puts octets in small hexadecimal.
     pub fn push_hexadecimal(&mut self, octets: &[u8])
         requires { length self.old + 2 * length octets.now ≤ longest }
         ensures { self.new ≡ self.old ++ hexadecimal octets.now }

@@ -26,23 +26,28 @@ stored n rest at d h l s m e w =
     take_all _ _ k ∙ (first_stored rest at d s (omega arith) l ∙ (w ∙ decimal_same n h))
 
 pub loop-rest-preserved : goal.loop-rest-preserved
-loop-rest-preserved c = let i = c.loop-rest.invariant in let r = room_left c.loop-rest.at c.loop-rest.rest i.room c.loop-rest-test.true in record {
-  whole =
-      digit_stored c.loop-rest.rest c.loop-rest.at c.loop-rest.digits i.some (omega (arith, i.most, i.long)) c.loop-rest-test.true
-      (omega (arith, c.loop-rest.auto.rest-fits))
-      ∙ i.whole;
-  room = r.1;
-  some = omega (arith, r.0);
-  most = omega (arith, i.most);
-  long = length-set c.loop-rest.digits (c.loop-rest.at - 1) _ ∙ i.long;
-}
+loop-rest-preserved c =
+    let i = c.loop-rest.invariant in
+    let l : 10 ≤ c.loop-rest.rest = omega (arith, c.loop-rest-test.true) in
+    let r = room_left c.loop-rest.at c.loop-rest.rest i.room l in record {
+      whole =
+          digit_stored c.loop-rest.rest c.loop-rest.at c.loop-rest.digits i.some (omega (arith, i.most, i.long)) l
+          (omega (arith, c.loop-rest.auto.rest-fits))
+          ∙ i.whole;
+      room = r.1;
+      some = omega (arith, r.0);
+      most = omega (arith, i.most);
+      long = length-set c.loop-rest.digits (c.loop-rest.at - 1) _ ∙ i.long;
+    }
 
 pub push-requires : goal.push-requires
 push-requires c =
     let i = c.loop-rest.invariant in
-    rw (stored c.args.n c.loop-rest.rest c.loop-rest.at c.loop-rest.digits c.ranges.n.fits c.loop-rest-test.false i.some i.most i.long i.whole) c.requires
+    let l : c.loop-rest.rest < 10 = omega (arith, c.loop-rest-test.false) in
+    rw (stored c.args.n c.loop-rest.rest c.loop-rest.at c.loop-rest.digits c.ranges.n.fits l i.some i.most i.long i.whole) c.requires
 
 pub returns : goal.returns
 returns c =
     let i = c.loop-rest.invariant in
-    rw (stored c.args.n c.loop-rest.rest c.loop-rest.at c.loop-rest.digits c.ranges.n.fits c.loop-rest-test.false i.some i.most i.long i.whole) at c.push.ensures
+    let l : c.loop-rest.rest < 10 = omega (arith, c.loop-rest-test.false) in
+    rw (stored c.args.n c.loop-rest.rest c.loop-rest.at c.loop-rest.digits c.ranges.n.fits l i.some i.most i.long i.whole) at c.push.ensures
