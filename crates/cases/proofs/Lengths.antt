@@ -25,7 +25,7 @@ unfolding shown
 shown_length [] = omega arith
 shown_length (o ∷ s) = omega (arith, hexadecimal_length (o ∷ s))
 
--- so a line of that length has room for each
+-- so each line is within `longest`
 pub done_length : (number : ℕ) (result : List ℕ) → number < 2 ^ 64 → length result ≤ 16384 → length (done_line number result) ≤ longest
 unfolding done_line
 done_length number result h k = simp length-append (omega (arith, decimal_length number h, shown_length result))
