@@ -89,3 +89,7 @@ case_outcome operation t table d =
 -- FORMATS, "The program of cases": the line of a case with a number, from its operation, type, table and data.
 unfoldable pub case_line : ℕ → ℕ → ℕ → List ℕ → List ℕ → List ℕ
 case_line number operation t table d = output_line number (case_outcome operation t table d).answer (case_outcome operation t table d).buffer
+
+-- What the longest line has: twenty digits, ` ok `, two digits for each of 16,384 octets, a line feed.
+abbrev pub longest : ℕ
+longest = 32793

@@ -3,6 +3,7 @@
 
 mod case;
 mod line;
+mod text;
 
 ghost use Rattle.std.specs.Prelude.{◌≡◌, ◌≤◌, length, IfOk, OnOk};
 ghost use Rattle.std.specs.Io.KnownBytes.{Appends};
@@ -13,6 +14,7 @@ use case::Operation;
 use line::{say, say_cut};
 use std::io;
 use std::io::{Read, Write};
+use text::Line;
 
 // The longest table, and the longest data, that a case may have.
 const LONGEST: usize = 16385;
@@ -66,6 +68,7 @@ fn read_part<R: Read>(input: &mut R, size: [u8; 2], buf: &mut [u8; LONGEST]) -> 
 #[tactic(auto, unfolding(crate::specs::Output::lent, crate::specs::Output::case_line))]
 fn run<W: Write>(
     output: &mut W,
+    line: &mut Line,
     number: u64,
     operation: Operation,
     t: usize,
@@ -77,11 +80,16 @@ fn run<W: Write>(
 {
     let mut buf = [0u8; 16384];
     let answer = case::answer(operation, t, table, data, &mut buf);
-    say(output, number, answer, &buf)
+    say(output, line, number, answer, &buf)
 }
 
 // One case: its head, the table, the size of the data, the data.
-fn one<R: Read, W: Write>(input: &mut R, output: &mut W, number: u64) -> Result<(), Stop> {
+fn one<R: Read, W: Write>(
+    input: &mut R,
+    output: &mut W,
+    line: &mut Line,
+    number: u64,
+) -> Result<(), Stop> {
     let mut head = [0u8; 6];
     let got = read_full(input, &mut head)?;
     if got == 0 {
@@ -103,6 +111,7 @@ fn one<R: Read, W: Write>(input: &mut R, output: &mut W, number: u64) -> Result<
     let n = read_part(input, size, &mut data)?;
     run(
         output,
+        line,
         number,
         operation,
         usize::from(head[3]),
@@ -116,11 +125,12 @@ fn one<R: Read, W: Write>(input: &mut R, output: &mut W, number: u64) -> Result<
 fn main(rt: HostRuntime) -> io::Result<()> {
     let mut input = rt.stdin();
     let mut output = rt.stdout();
+    let mut line = Line::new();
     for number in 1..u64::MAX {
-        match one(&mut input, &mut output, number) {
+        match one(&mut input, &mut output, &mut line, number) {
             Ok(()) => {}
             Err(Stop::End) => break,
-            Err(Stop::Cut) => return say_cut(&mut output, number),
+            Err(Stop::Cut) => return say_cut(&mut output, &mut line, number),
             Err(Stop::Io(e)) => return Err(e),
         }
     }
