@@ -10,6 +10,7 @@ use coding::Refusal;
 use dates::{DateTime, TimeKind};
 
 // Both times; the first is judged wholly before the second.
+#[inline(always)]
 fn both(first: &[u8], second: &[u8]) -> Result<(DateTime, DateTime), Refusal>
     ensures times { IfOk result (λ p. (Reckoning·given Generalized first.now ≡ Ok p.0)
         × (Reckoning·given Generalized second.now ≡ Ok p.1)) }
