@@ -18,7 +18,8 @@
  * and may overlap each other; buf must not overlap them. A null pointer with the length 0 is allowed; a null
  * pointer with another length is not, nor is a length of more octets than there are. A refusal leaves all of buf as it was;
  * what is done writes the first octets of buf, as many as the answer says, and leaves the rest as it was. Nothing is kept
- * between calls and no memory is allocated, so calls may run at the same time on different buffers.
+ * between calls and no memory is allocated, so calls may run at the same time on different buffers. The archive asks for memset and for
+ * nothing else, so a program that has its own needs no C library.
  *
  * ./build puts this file and the archive into target/yinscarf; a program is built by
  *   cc -Itarget/yinscarf program.c target/yinscarf/libyinscarf.a

@@ -34,6 +34,9 @@ pub fn copy(c: &[u8], part: &mut [u8])
     ensures { part.new ≡ filled part.old c.now }
 {
     if c.len() == part.len() {
-        part.copy_from_slice(c);
+        // `copy_from_slice` would have the archive ask for `memmove`, which a program without a C library has not.
+        for i in 0..c.len() {
+            part[i] = c[i];
+        }
     }
 }

@@ -144,7 +144,8 @@ fn put_string(c: &[u8], buf: &mut [u8], to: usize) -> usize
 {
     put_number(buf, to, c.len());
     let end = to + 2 + c.len();
-    buf[to + 2..end].copy_from_slice(c);
+    // `copy_from_slice` would ask for `memmove` (`octets::copy`).
+    octets::copy(c, &mut buf[to + 2..end]);
     end
 }
 

@@ -31,7 +31,8 @@ pub fn copy_masked(c: &[u8], n: usize, part: &mut [u8])
     if c.len() != part.len() {
         return;
     }
-    part.copy_from_slice(c);
+    // `copy_from_slice` would ask for `memmove` (`octets::copy`).
+    octets::copy(c, part);
     mask(n, part);
 }
 

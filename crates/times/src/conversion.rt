@@ -35,6 +35,7 @@ fn counterpart(version: usize, kind: TimeKind, t: DateTime) -> Result<DateTime, 
 }
 
 // Puts the counterpart of a time of a kind into the buffer.
+#[inline(always)]
 fn convert(kind: TimeKind, version: usize, time: &[u8], buf: &mut [u8]) -> Result<usize, Refusal>
     ensures { let x = whole_conversion kind version time.now buf.old in
         (result ≡ x.answer)

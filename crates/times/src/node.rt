@@ -25,6 +25,7 @@ fn number(kind: TimeKind) -> u8
 }
 
 // The time that octets are: one node alone, and of that kind.
+#[inline(always)]
 pub fn given(kind: TimeKind, s: &[u8]) -> Result<DateTime, Refusal>
     ensures { result ≡ at_start (Reckoning·given kind s.now) }
 {

@@ -9,7 +9,8 @@ use clock::seconds;
 use coding::Refusal;
 use dates::{DateTime, TimeKind};
 
-// Both times; the first is judged wholly before the second.
+// Both times; the first is judged wholly before the second. Callers match on them: `?` would copy the pair through memory.
+#[inline(always)]
 fn both(first: &[u8], second: &[u8]) -> Result<(DateTime, DateTime), Refusal>
     ensures times { IfOk result (λ p. (Reckoning·given Generalized first.now ≡ Ok p.0)
         × (Reckoning·given Generalized second.now ≡ Ok p.1)) }
@@ -27,8 +28,10 @@ fn both(first: &[u8], second: &[u8]) -> Result<(DateTime, DateTime), Refusal>
 pub fn order(first: &[u8], second: &[u8]) -> Result<i64, Refusal>
     ensures { result ≡ whole_order first.now second.now }
 {
-    let (a, b) = both(first, second)?;
-    Ok(seconds::order(a, b))
+    match both(first, second) {
+        Ok((a, b)) => Ok(seconds::order(a, b)),
+        Err(refusal) => Err(refusal),
+    }
 }
 
 // The whole seconds from the first to the second; negative if that is before it.
@@ -36,6 +39,8 @@ pub fn order(first: &[u8], second: &[u8]) -> Result<i64, Refusal>
 pub fn elapsed(first: &[u8], second: &[u8]) -> Result<i64, Refusal>
     ensures { result ≡ whole_seconds first.now second.now }
 {
-    let (a, b) = both(first, second)?;
-    Ok(seconds::elapsed(a, b))
+    match both(first, second) {
+        Ok((a, b)) => Ok(seconds::elapsed(a, b)),
+        Err(refusal) => Err(refusal),
+    }
 }

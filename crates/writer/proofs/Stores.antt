@@ -38,12 +38,12 @@ module _ (buf : List ℕ) (to n : ℕ) (h : to + n ≤ length buf) where
       let f : last ≡ w = e ∙ rw (eq-eqb (length w) (length (take (to + n - to) (drop to buf))) (sym k ∙ sym part_long)) refl in
       rw count (part_put buf last w to n f (sym k) h)
 
-  pub part_copied : (v : List ℕ) (p : ℕ) (last : List ℕ) → p + n ≤ length v → last ≡ take (p + n - p) (drop p v)
+  pub copy_put : (v : List ℕ) (p : ℕ) (last : List ℕ) → p + n ≤ length v → last ≡ filled (take (to + n - to) (drop to buf)) (take (p + n - p) (drop p v))
       → put_mid to (to + n - to) buf last ≡ sets buf to (take n (drop p v))
-  part_copied v p last g e =
+  copy_put v p last g e =
       let q : p + n - p ≡ n = omega arith in
       let l = length-drop p v in
-      rw count (part_put buf last (take n (drop p v)) to n (rw q at e) (length-take-le n (drop p v) (omega arith)) h)
+      filled_put (take n (drop p v)) last (sym (length-take-le n (drop p v) (omega arith))) (rw q at e)
 
   pub time_put : (k : TimeKind) (t s : DateTime) (last : List ℕ) → t ≡ s → in_range k s ≡ true → n ≡ length (time_digits k s)
       → (in_range k t ≡ true → last ≡ filled (take (to + n - to) (drop to buf)) (time_digits k t))

@@ -194,7 +194,8 @@ fn put_part(v: &[u8], p: usize, n: usize, buf: &mut [u8], to: usize)
 {
     let end = p + n;
     let last = to + n;
-    buf[to..last].copy_from_slice(&v[p..end]);
+    // `copy_from_slice` would ask for `memmove` (`octets::copy`).
+    octets::copy(&v[p..end], &mut buf[to..last]);
 }
 
 // Puts the `size` contents octets of an integer.

@@ -1,8 +1,7 @@
 -- `ber::put` meets its contract.
 -- Assumes nothing.
-use Rattle.std.proofs.Common.{refl, sym, ◌+◌, ◌∙◌, take, drop, length, append_assoc}
-use native.Mathlib.Nat.{add-sub_cancel_left}
-use lib.Seq.{sets-eq, drop-drop}
+use Rattle.std.proofs.Common.{refl, ◌+◌, length}
+use Rattle.octets.proofs.Buffers.{part_filled}
 use Rattle.ber.proofs.Headers.{room, puts}
 use Rattle.ber.proofs.put.Goals as goal
 
@@ -13,5 +12,4 @@ returns c =
     let to = c.args.to in
     let n = length w in
     let h = room w to (length b) n _ refl c.holds.ensures c.if-not-holds.false in
-    puts b to w h w (to + n) _ refl refl
-    (rw (c.copy_from_slice.ensures.after, add-sub_cancel_left to n, drop-drop n to b) (sym (sets-eq w b to h ∙ append_assoc (take to b) w (drop (to + n) b))))
+    puts b to w h w (to + n) _ refl refl (part_filled b w _ to n refl h c.copy.ensures)

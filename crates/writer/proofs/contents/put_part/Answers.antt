@@ -1,7 +1,7 @@
 -- By the part of the buffer that comes back.
 -- Assumes nothing.
-use Rattle.writer.proofs.Stores.{part_copied}
+use Rattle.writer.proofs.Stores.{copy_put}
 use Rattle.writer.proofs.contents.put_part.Goals as goal
 
 pub returns : goal.returns
-returns c = part_copied _ _ _ c.requires.1 _ _ _ c.requires.0 c.copy_from_slice.ensures.after
+returns c = copy_put _ _ _ c.requires.1 _ _ _ c.requires.0 c.copy.ensures
