@@ -1,3 +1,5 @@
+-- Before the first turn all octets are left to copy.
+-- Assumes nothing.
 use Rattle.std.proofs.Common.{sym}
 use Rattle.octets.proofs.Buffers.{sets_all}
 use Rattle.octets.proofs.copy.Goals as goal

@@ -1,3 +1,5 @@
+-- With the octets that are left the part would have all.
+-- Assumes nothing.
 use Rattle.std.proofs.Common.{◌≡◌, length, drop}
 use Rattle.std.proofs.lemmas.List.Edits.{sets}
 use Rattle.octets.proofs.copy.Given as goal
