@@ -25,7 +25,8 @@ use Rattle.table.specs.Walk.{same_outermost, like}
 use Rattle.table.proofs.Loops.{lowest_same}
 use Rattle.table.proofs.Nodes.{like_untagged}
 use Rattle.table.proofs.Reading.{limits}
-use Rattle.records.specs.Entries.{unpacked, untagged, more, outermost_code, Entered, Filled}
+use Rattle.records.specs.Entries.{unpacked, untagged, more, outermost_code, Entered}
+use Rattle.records.specs.Descriptors.{entry_of, described, Listed}
 use Rattle.records.specs.declared.entry.Entry.{Entry}
 use Rattle.records.proofs.Entries.{code_small}
 use Rattle.checker.specs.Gathering.{tag_of, like_in}
@@ -144,22 +145,22 @@ module _ {b : List ℕ} {e : Entry} {r : Record} (o : Octets b) (x : Entered b e
           )
       by (h ∷ hs) t = rw t (code_test e f h g (fronted o x s h hs t) y)
 
-module _ (b index : List ℕ) (n : ℕ) (o : Octets b) (x : Filled b index n) (t : ℕ) (h : t < n) where
+module _ (b index : List ℕ) (n : ℕ) (o : Octets b) (x : Listed b index n) (t : ℕ) (h : t < n) where
   pub like_in_lem : like_in index t ≡ like (table_in b) t
-  unfolding like_in like
+  unfolding like_in like described
   like_in_lem = by (table_in b t).tags refl
     where
       T : Table
       T = table_in b
 
       by : (gs : List Tag) → (T t).tags ≡ gs → like_in index t ≡ like T t
-      by [] q = rw (code_some (x.entered t h) q) (sym (like_untagged T t q))
+      by [] q = rw (code_some (x.describes t h).entered q) (sym (like_untagged T t q))
       by (g ∷ gs) q =
-          let f = fronted o (x.entered t h) (x.shaped t h) g gs q in
+          let f = fronted o (x.describes t h).entered (x.shaped t h) g gs q in
           rw (ne_eqb (tag_of (unpacked (get_or index t 0)).code) untagged
           (λ z. omega (arith, z, f.is, code_small g.class false g.number (omega arith) f.small)))
           (lowest_same _ (λ u. same_outermost (T u).tags (T t).tags) t
-          (λ u l. rw q (front_test o (x.entered u (omega arith)) (x.shaped u (omega arith)) (unpacked (get_or index t 0)) g gs f)))
+          (λ u l. rw q (front_test o (x.describes u (omega arith)).entered (x.shaped u (omega arith)) (entry_of (described (get_or index t 0))) g gs f)))
 
 pub like_in_low : (index : List ℕ) (t : ℕ) → like_in index t ≤ t
 unfolding like_in

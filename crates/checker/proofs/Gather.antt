@@ -19,8 +19,8 @@ use Rattle.table.specs.Reading.{every_at, table_in, count_in}
 use Rattle.table.specs.Walk.{like, free, at, under, Walks, done, seen, down, Named}
 use Rattle.table.proofs.Loops.{every_step}
 use Rattle.table.proofs.Nodes.{like_low}
-use Rattle.records.specs.Entries.{unpacked, untagged, counted, Filled}
-use Rattle.records.specs.Descriptors.{descriptor_of}
+use Rattle.records.specs.Entries.{unpacked, untagged, counted}
+use Rattle.records.specs.Descriptors.{described, Listed}
 use Rattle.records.specs.declared.descriptor.Descriptor.{Descriptor}
 use Rattle.records.specs.declared.entry.Span.{Span}
 use Rattle.checker.specs.Gathering.{Met, Gathered, GatheredUnder, StandIns}
@@ -132,7 +132,7 @@ module _ (T : Table) (m : ℕ) (v : List ℕ) (k : ℕ) {w : List ℕ} (b : List
 
 -- what a walk from t needs: the index, what stands for each record, and the marks of 128 records with the one that is put behind them
 pub record Gathers (b index nodes flags : List ℕ) (t : ℕ) : Type 0 where
-  pub filled : Filled b index (count_in b)
+  pub filled : Listed b index (count_in b)
   pub ready : StandIns (table_in b) (count_in b) nodes
   pub named : Named (table_in b) (count_in b)
   pub marks : length flags ≡ 129
@@ -165,12 +165,13 @@ module _ {b index nodes v : List ℕ} {t : ℕ} (x : Gathers b index nodes v t) 
   pub put_gathers : Gathers b index nodes put t
   put_gathers = gathers_at t (length-set v (get_or nodes t 0) (get_or v 128 0) ∙ x.marks) x.there
 
-  module _ {e : Descriptor} (d : e ≡ descriptor_of (unpacked (get_or index t 0))) {s : Span} (q : s ≡ counted b e.own 1) (o : Octets b) where
+  module _ {e : Descriptor} (d : e ≡ described (get_or index t 0)) {s : Span} (q : s ≡ counted b e.own 1) (o : Octets b) where
     pub alternatives_below : (unpacked (get_or index t 0)).code ≡ untagged → below (table_in b) t ≡ every_at 1 b s.first s.count
+    unfolding described
     alternatives_below c =
         let y = (entry_at x.filled t x.there d).entered in
         rw q (entered_below y (code_none o y (x.filled.shaped t x.there) (rw d c)) (x.named.tagged t x.there))
 
-pub gathers_of : {b index nodes flags : List ℕ} {t : ℕ} → Filled b index (count_in b) → StandIns (table_in b) (count_in b) nodes → Named (table_in b) (count_in b)
+pub gathers_of : {b index nodes flags : List ℕ} {t : ℕ} → Listed b index (count_in b) → StandIns (table_in b) (count_in b) nodes → Named (table_in b) (count_in b)
     → length flags ≡ 129 → t < count_in b → Gathers b index nodes flags t
 gathers_of x r m l h = record { filled = x; ready = r; named = m; marks = l; there = h }

@@ -20,12 +20,11 @@ use Rattle.table.specs.Fields.{universal_of}
 use Rattle.table.proofs.Fields.{universal_of_lem}
 use Rattle.table.proofs.Scan.{look_beyond}
 use Rattle.kinds.specs.Kinds.{octet_of}
-use Rattle.records.specs.Entries.{unpacked, all_but_last, explicit_count, tag_place, has_members, counted, span_of, Entered, Near, Filled}
-use Rattle.records.specs.Descriptors.{descriptor_of, Describes}
+use Rattle.records.specs.Entries.{unpacked, all_but_last, explicit_count, tag_place, has_members, counted, span_of, Entered, Near}
+use Rattle.records.specs.Descriptors.{described, Describes, Listed}
 use Rattle.records.specs.declared.entry.Entry.{Entry}
 use Rattle.records.specs.declared.descriptor.Descriptor.{Descriptor}
 use Rattle.records.specs.declared.entry.Span.{Span}
-use Rattle.records.proofs.Promises.{describes}
 use Rattle.records.proofs.Entries.{kind_choice, kind_members, entered_members, entered_span, entered_choice, entered_tags}
 
 -- what a count stands before lies near, and so does the span of any kind
@@ -221,16 +220,16 @@ module _ {b : List ℕ} {e : Entry} {r : Record} (x : Entered b e r) where
           by (of_other k n q) = sym (q ∙ rw h)
 
 -- behind the records of an index there are none
-pub filled_beyond : {b index : List ℕ} {n : ℕ} → Filled b index n → (t : ℕ) → n ≤ t → table_in b t ≡ absent
+pub filled_beyond : {b index : List ℕ} {n : ℕ} → Listed b index n → (t : ℕ) → n ≤ t → table_in b t ≡ absent
 filled_beyond {b} x t h = look_beyond b (scan b).offsets t x.short (rw x.count at h)
 
 -- the entry that the code reads for record t, and what its parts span
-module _ {b index : List ℕ} {n : ℕ} (x : Filled b index n) (t : ℕ) (h : t < n) {e : Descriptor} (d : e ≡ descriptor_of (unpacked (get_or index t 0))) where
+module _ {b index : List ℕ} {n : ℕ} (x : Listed b index n) (t : ℕ) (h : t < n) {e : Descriptor} (d : e ≡ described (get_or index t 0)) where
   pub entry_at : Describes b e (table_in b t)
-  entry_at = rw d (describes _ (x.entered t h))
+  entry_at = rw d (x.describes t h)
 
   pub span_near : Octets b → {s : Span} → s ≡ span_of b (octet_of e.kind) e.own → Near s
-  unfolding unpacked
+  unfolding described unpacked
   span_near o q = rw q (near_span b (octet_of e.kind) e.own o (rw d (omega arith)))
 
   pub span_named : {s : Span} → s ≡ span_of b (octet_of e.kind) e.own → every_at s.step b s.first s.count ≡ references (table_in b t).body

@@ -28,8 +28,8 @@ use Rattle.table.specs.Walk.{like, Hits, Walks, Straight}
 use Rattle.table.proofs.Nodes.{hits_reaches, reaches_hits, first_record, first_hits}
 use Rattle.table.proofs.Walk.{Kept, kept, newly, keeps, complete}
 use Rattle.kinds.specs.Kinds.{octet_of}
-use Rattle.records.specs.Entries.{unpacked, span_of, Filled}
-use Rattle.records.specs.Descriptors.{descriptor_of}
+use Rattle.records.specs.Entries.{unpacked, span_of}
+use Rattle.records.specs.Descriptors.{described, Listed}
 use Rattle.records.specs.declared.descriptor.Descriptor.{Descriptor}
 use Rattle.records.specs.declared.entry.Span.{Span}
 use Rattle.checker.specs.Gathering.{Met, GatheredUnder, Compares, optional_in}
@@ -200,7 +200,7 @@ pub named_few : (r : Record) (step : ℕ) (b : List ℕ) (p n : ℕ) → record_
 named_few r step b p n s e = omega (arith, few_named r.body (limits r s).shaped, ap length e, length_every step b p n)
 
 -- the parts of record t, in the code's hands: what comparing them needs, and what it says of the record
-module _ {b index : List ℕ} (x : Filled b index (count_in b)) {t : ℕ} (h : t < count_in b) {e : Descriptor} (d : e ≡ descriptor_of (unpacked (get_or index t 0))) {s : Span}
+module _ {b index : List ℕ} (x : Listed b index (count_in b)) {t : ℕ} (h : t < count_in b) {e : Descriptor} (d : e ≡ described (get_or index t 0)) {s : Span}
     (q : s ≡ span_of b (octet_of e.kind) e.own) where
   pub compares : Octets b → Straight (table_in b) (count_in b) → Compares b s
   compares o y =

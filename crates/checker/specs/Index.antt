@@ -3,12 +3,12 @@
 use Rattle.std.specs.Prelude.{not, List, [], ◌∷◌, ◌++◌, map, ℕ, zero, suc, ◌-◌, length, replicate, Option, Some, None, Result, Ok, Err}
 use Rattle.octets.specs.Tests.{if}
 use Rattle.table.specs.Reading.{scan, count_in}
-use Rattle.table.specs.Verdict.{Verdict, no_flaw, flawed, too_long, verdict}
+use Rattle.table.specs.Verdict.{Verdict, no_flaw, flawed, too_long}
 use Rattle.table.specs.declared.CheckCause.{CheckCause}
 use Rattle.table.specs.declared.CheckCause.TheVariants.{TableShape}
 use Rattle.table.specs.declared.Flaw.{Flaw}
 use Rattle.records.specs.Entries.{packed, entry_at}
-use Rattle.records.specs.Descriptors.{number_of}
+use Rattle.records.specs.Descriptors.{number_of, entry_number_of}
 
 -- the number of the record at o
 abbrev pub number_at : List ℕ → ℕ → ℕ
@@ -33,19 +33,22 @@ count_after b = if (too_long b) 0 λ _. count_in b
 unfoldable pub index_after : List ℕ → List ℕ → List ℕ
 index_after b before = if (too_long b) before λ _. index_in b
 
--- the first n numbers, which are those of entries, become those of their descriptors
-unfoldable pub renumbered : ℕ → List ℕ → List ℕ
-renumbered zero ws = ws
-renumbered (suc n) [] = []
-renumbered (suc n) (w ∷ ws) = number_of w ∷ renumbered n ws
+-- the first n numbers, each as f has it
+unfoldable pub changed : (ℕ → ℕ) → ℕ → List ℕ → List ℕ
+changed f zero ws = ws
+changed f (suc n) [] = []
+changed f (suc n) (w ∷ ws) = f w ∷ changed f n ws
 
--- By `Passed::check` the index of a table that passes has descriptors; that of another is as `check_into` leaves it.
-unfoldable pub left_by : Verdict → ℕ → List ℕ → List ℕ
-left_by (Ok u) n ws = renumbered n ws
-left_by (Err f) n ws = ws
+-- the numbers of entries become those of their descriptors, and back
+abbrev pub renumbered : ℕ → List ℕ → List ℕ
+renumbered = changed number_of
 
-abbrev pub left_after : List ℕ → List ℕ → List ℕ
-left_after b before = left_by (verdict b) (count_in b) (index_after b before)
+abbrev pub restored : ℕ → List ℕ → List ℕ
+restored = changed entry_number_of
+
+-- the index that the check itself goes by, and that `Passed::check` leaves: with the descriptors of the records that are counted
+abbrev pub described_after : List ℕ → List ℕ → List ℕ
+described_after b before = renumbered (count_after b) (index_after b before)
 
 -- the verdict by one cause, and the record that was found to have it, if one was
 abbrev pub unless_found : CheckCause → Option ℕ → Verdict

@@ -12,7 +12,7 @@ ghost use Rattle.records.specs.Descriptors.{Describes};
 use crate::index::Indexed;
 use kinds::Kind;
 use octets::octet;
-use records::descriptor::{Descriptor, alternatives, of_number, parts};
+use records::descriptor::{Descriptor, alternatives, describe, parts};
 use records::entry::{Span, optional};
 
 // Whether record t is flagged; a number that is not there is not.
@@ -59,7 +59,7 @@ fn round(w: &Indexed, flags: &mut [u8; 128]) -> bool
 {
     let mut more = false;
     for t in (0..w.count).rev() {
-        if flags[t] == 0 && found(w.table, flags, of_number(w.index[t])) {
+        if flags[t] == 0 && found(w.table, flags, describe(w.index[t])) {
             flags[t] = 1;
             more = true;
         }

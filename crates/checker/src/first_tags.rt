@@ -6,13 +6,14 @@ ghost use Rattle.table.specs.Rules.{Clash};
 ghost use Rattle.table.specs.Reading.{every_at, table_in, count_in};
 ghost use Rattle.table.specs.Decide.{circular, sharing};
 ghost use Rattle.table.specs.Walk.{like, Named, Straight};
-ghost use Rattle.records.specs.Entries.{unpacked, untagged, Filled};
+ghost use Rattle.records.specs.Entries.{unpacked, untagged};
+ghost use Rattle.records.specs.Descriptors.{Listed};
 ghost use Rattle.checker.specs.Gathering.{like_in, tag_of, StandIns, Gathered, GatheredUnder, Compares, optional_in};
 
 use crate::index::Indexed;
 use kinds::Kind;
 use octets::octet;
-use records::descriptor::{alternatives, of_number, parts};
+use records::descriptor::{alternatives, describe, parts};
 use records::entry::{Span, UNTAGGED, first, optional};
 
 // The first tag of an entry: its code but for the bit that says constructed.
@@ -56,7 +57,7 @@ pub(crate) struct Known<'a> {
     pub count: usize,
     ghost octets: { Octets table.now },
     ghost counted: { count ≡ count_in table.now },
-    ghost filled: { Filled table.now index.now (count_in table.now) },
+    ghost filled: { Listed table.now index.now (count_in table.now) },
     ghost ready: { StandIns (table_in table.now) (count_in table.now) nodes.now },
     ghost named: { Named (table_in table.now) (count_in table.now) },
 }
@@ -93,7 +94,7 @@ fn gather_under(w: &Known, flags: &mut [u8; 129], t: usize) -> bool
     requires { (t < count_in w.now.table.now) × ((unpacked (get_or w.now.index.now t 0)).code ≡ untagged) }
     ensures { GatheredUnder (table_in w.now.table.now) (get_or flags.old 128 0) flags.old t result flags.new }
 {
-    let s = alternatives(w.table, of_number(w.index[t]));
+    let s = alternatives(w.table, describe(w.index[t]));
     for at in s.first..s.first + s.count {
         if gather(w, flags, octet(w.table, at)) {
             return true;
@@ -185,7 +186,7 @@ fn is_sharing(w: &Known, t: usize) -> bool
     requires { let b = w.now.table.now in Straight (table_in b) (count_in b) × (t < count_in b) }
     ensures { result ≡ sharing (table_in w.now.table.now) (count_in w.now.table.now) t }
 {
-    let e = of_number(w.index[t]);
+    let e = describe(w.index[t]);
     if e.simple {
         return false;
     }

@@ -4,25 +4,26 @@ ghost use Rattle.octets.specs.Tests.{if};
 ghost use Rattle.octets.specs.Numbers.{Octets};
 ghost use Rattle.table.specs.declared.CheckCause.TheVariants.{TableShape};
 ghost use Rattle.table.specs.Reading.{record_end};
-ghost use Rattle.records.specs.Entries.{Filled, packed, outermost_in, all_but_last};
-ghost use Rattle.checker.specs.Index.{number_at, scanned, index_in, renumbered};
+ghost use Rattle.records.specs.Entries.{packed, outermost_in, all_but_last};
+ghost use Rattle.records.specs.Descriptors.{Listed};
+ghost use Rattle.checker.specs.Index.{number_at, scanned, index_in, renumbered, restored};
 
 use crate::shape::record_end;
 use ber::identifier::code_of;
 use kinds::{Kind, constructed};
 use octets::{octet, two};
-use records::descriptor::number;
+use records::descriptor::{entry_number, number};
 use records::entry::{LACKING, UNTAGGED};
 use table::{CheckCause, Flaw};
 
-// A table and its index, which has the entries of all its records, as many as `count`.
+// A table and its index, which has the descriptors of all its records, as many as `count`.
 #[derive(Clone, Copy)]
 pub(crate) struct Indexed<'a> {
     pub table: &'a [u8],
     pub index: &'a [u64; 128],
     pub count: usize,
     ghost octets: { Octets table.now },
-    ghost filled: { Filled table.now index.now count },
+    ghost filled: { Listed table.now index.now count },
 }
 
 // The code of the outermost identifier of a record with as many tags, the first at p, simple or not.
@@ -122,5 +123,15 @@ pub(crate) fn renumber(index: &mut [u64; 128], n: usize)
 {
     for t in 0..n {
         index[t] = number(index[t]);
+    }
+}
+
+// And back.
+pub(crate) fn restore(index: &mut [u64; 128], n: usize)
+    requires { n ≤ 128 }
+    ensures { index.new ≡ restored n index.old }
+{
+    for t in 0..n {
+        index[t] = entry_number(index[t]);
     }
 }

@@ -13,7 +13,7 @@ ghost use Rattle.std.specs.Prelude.{◌≡◌};
 ghost use Rattle.table.specs.Verdict.{judge_choices, judge, verdict};
 ghost use Rattle.table.specs.Walk.{Named};
 ghost use Rattle.table.specs.Reading.{table_in};
-ghost use Rattle.checker.specs.Index.{unless_found, count_after, index_after};
+ghost use Rattle.checker.specs.Index.{unless_found, count_after, index_after, described_after};
 
 use first_tags::Known;
 use index::Indexed;
@@ -71,13 +71,13 @@ fn judge_records(w: &Indexed) -> Result<(), Flaw>
     judge_choices(w)
 }
 
-// The check, and the index by which a table that passes is read. Of a table that is refused the records before the refusal of its shape
-// have their entries too. Zeros follow the entries. Of too many octets no record is counted, and the index stays as it was.
-pub fn check_into(table: &[u8], index: &mut [u64; 128]) -> Counted
+// The check, and an index of what its records are described by. Of a table that is refused the records before the refusal of its shape are
+// described too. Zeros follow. Of too many octets no record is counted, and the index stays as it was.
+fn check_described(table: &[u8], index: &mut [u64; 128]) -> Counted
     ensures { let b = table.now in
         (result.verdict ≡ verdict b)
         × (result.count ≡ count_after b)
-        × (index.new ≡ index_after b index.old) }
+        × (index.new ≡ described_after b index.old) }
 {
     if LONGEST_TABLE < table.len() {
         return Counted {
@@ -87,6 +87,7 @@ pub fn check_into(table: &[u8], index: &mut [u64; 128]) -> Counted
     }
     match index::fill(table, index) {
         Ok(count) => {
+            index::renumber(index, count);
             let w = Indexed {
                 table,
                 index,
@@ -97,11 +98,26 @@ pub fn check_into(table: &[u8], index: &mut [u64; 128]) -> Counted
                 count,
             }
         }
-        Err(flaw) => Counted {
-            verdict: Err(flaw),
-            count: flaw.place,
-        },
+        Err(flaw) => {
+            index::renumber(index, flaw.place);
+            Counted {
+                verdict: Err(flaw),
+                count: flaw.place,
+            }
+        }
     }
+}
+
+// The check, and the index of a table's records as their entries. Otherwise it is as after `check_described`.
+pub fn check_into(table: &[u8], index: &mut [u64; 128]) -> Counted
+    ensures { let b = table.now in
+        (result.verdict ≡ verdict b)
+        × (result.count ≡ count_after b)
+        × (index.new ≡ index_after b index.old) }
+{
+    let checked = check_described(table, index);
+    index::restore(index, checked.count);
+    checked
 }
 
 // The check of a table.
@@ -109,6 +125,6 @@ pub fn check(table: &[u8]) -> Result<(), Flaw>
     ensures { result ≡ verdict table.now }
 {
     let mut index = [0u64; 128];
-    let c = check_into(table, &mut index);
+    let c = check_described(table, &mut index);
     c.verdict
 }

@@ -4,10 +4,8 @@ ghost use Rattle.octets.specs.Numbers.{Octets};
 ghost use Rattle.table.specs.Reading.{count_in};
 ghost use Rattle.table.specs.Verdict.{verdict, no_flaw};
 ghost use Rattle.records.specs.Descriptors.{Listed};
-ghost use Rattle.checker.specs.Index.{count_after, left_after};
 
-use crate::index::renumber;
-use crate::{Counted, check_into};
+use crate::check_described;
 use table::Flaw;
 
 // Room for the index of a table's records. It is a struct, and the first parameter of `check`, since a clause on what it ends as, once what
@@ -15,21 +13,6 @@ use table::Flaw;
 #[derive(Clone, Copy, Debug, PartialEq, Eq)]
 pub struct Index {
     pub entries: [u64; 128],
-}
-
-// The check, after which the index of a table that passes has descriptors.
-fn check_described(table: &[u8], index: &mut [u64; 128]) -> Counted
-    ensures { let b = table.now in
-        (result.verdict ≡ verdict b)
-        × (result.count ≡ count_after b)
-        × (index.new ≡ left_after b index.old) }
-{
-    let checked = check_into(table, index);
-    match checked.verdict {
-        Ok(()) => renumber(index, checked.count),
-        Err(_) => {}
-    }
-    checked
 }
 
 // Its octets, its index, which has a descriptor's number for each of its records, and how many there are.
@@ -46,16 +29,17 @@ pub struct Passed<'a> {
 
 impl<'a> Passed<'a> {
     ghost use Rattle.std.specs.Borrow.{sem};
+    ghost use Rattle.checker.specs.Index.{described_after};
     ghost use Rattle.checker.specs.Lent.{EndsAs};
 
-    // Checks a table, and fills the index that is lent, with descriptors if the table passes, and else as `check_into` leaves it.
+    // Checks a table, and fills the index that is lent. Passed or refused, it has the descriptors of the records that the check counts.
     pub fn check(index: &'a mut Index, table: &'a [u8]) -> Result<Passed<'a>, Flaw>
         ensures passes { IfOk result (λ x.
             (verdict table.now ≡ no_flaw)
             × (x.octets.now ≡ table.now)
-            × (x.index.now ≡ left_after table.now index.old.entries)) }
+            × (x.index.now ≡ described_after table.now index.old.entries)) }
         ensures refused { IfErr result (λ f. verdict table.now ≡ Err f) }
-        ensures* left { sem 𝓛 (EndsAs index.entry (left_after table.now index.old.entries)) }
+        ensures* left { sem 𝓛 (EndsAs index.entry (described_after table.now index.old.entries)) }
     {
         let checked = check_described(table, &mut index.entries);
         match checked.verdict {

@@ -10,7 +10,7 @@ ghost use Rattle.records.specs.Descriptors.{Describes};
 
 use crate::index::Indexed;
 use octets::octet;
-use records::descriptor::{Descriptor, of_number, parts};
+use records::descriptor::{Descriptor, describe, parts};
 use records::entry::Span;
 
 // Whether one of the parts has a number that is not below n.
@@ -35,5 +35,5 @@ fn names_beyond(table: &[u8], e: Descriptor, n: usize) -> bool
 pub(crate) fn lowest(w: &Indexed) -> Option<usize>
     ensures { let n = w.now.count in result ≡ if_below n (lowest (dangling (table_in w.now.table.now) n) n) }
 {
-    (0..w.count).find(|&t| names_beyond(w.table, of_number(w.index[t]), w.count))
+    (0..w.count).find(|&t| names_beyond(w.table, describe(w.index[t]), w.count))
 }

@@ -13,7 +13,7 @@ ghost use Rattle.records.specs.Descriptors.{entry_of, Describes};
 use crate::index::Indexed;
 use kinds::Kind;
 use octets::{octet, two};
-use records::descriptor::{Descriptor, of_number, tag_place};
+use records::descriptor::{Descriptor, describe, tag_place};
 use records::entry::LACKING;
 
 // Whether one of the explicit tags is UNIVERSAL.
@@ -55,5 +55,5 @@ fn wrong(table: &[u8], e: Descriptor) -> bool
 pub(crate) fn lowest(w: &Indexed) -> Option<usize>
     ensures { let n = w.now.count in result ≡ if_below n (lowest (mistagged (table_in w.now.table.now)) n) }
 {
-    (0..w.count).find(|&t| wrong(w.table, of_number(w.index[t])))
+    (0..w.count).find(|&t| wrong(w.table, describe(w.index[t])))
 }

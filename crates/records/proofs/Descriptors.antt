@@ -37,5 +37,5 @@ describes {b} w {r} x = record { entered = subst (λ e. Entered b e r) (sym (ent
 
 -- the code alone is at the same place in both numbers
 pub first_described : (w : ℕ) → (unpacked w).code ≡ (described w).code
-unfolding unpacked described
+unfolding described
 first_described w = refl

@@ -8,10 +8,10 @@ use native.Mathlib.Nat.{mul-add-div_right, div-eq_of_lt, mul-add-mod_self_right,
 use lib.Dec.{leb}
 use borrow.Author.Tests.{le-leb, lt-leb, leb-true, leb-false}
 use Rattle.octets.proofs.Tests.{test}
-use Rattle.kinds.specs.Kinds.{place_of, kind_at, kind_of}
+use Rattle.kinds.specs.Kinds.{octet_of, place_of, kind_at, kind_of}
 use Rattle.kinds.proofs.Same.{place_low, kind_back}
 use Rattle.records.specs.Entries.{unpacked, high_octet, packed}
-use Rattle.records.specs.Descriptors.{descriptor_of, described, number_of}
+use Rattle.records.specs.Descriptors.{descriptor_of, described, number_of, entry_number_of}
 use Rattle.records.specs.declared.entry.Entry.{Entry}
 
 -- what stands above a unit m, and what below it
@@ -77,7 +77,7 @@ simple_by high kind own code h₁ h₂ h₃ =
 
 pub describes_number : (high kind own code : ℕ) → kind < 256 → own < 65536 → code < 4294967296
     → described (number high kind own code) ≡ record { code = code; own = own; kind = kind_at kind; explicit = high % 128; simple = leb 128 high }
-unfolding described
+unfolding described unpacked
 describes_number high kind own code h₁ h₂ h₃ =
     let p : number high kind own code % 4294967296 ≡ code = lower ((high * 256 + kind) * 65536 + own) 4294967296 code h₃ in
     let q : number high kind own code / 4294967296 % 65536 ≡ own = rw (above_code high kind own code h₁ h₂ h₃) (lower (high * 256 + kind) 65536 own h₂) in
@@ -100,3 +100,18 @@ module _ (w : ℕ) where
       = ap (leb 9223372036854775808) (parted w) ∙ simple_by high (w / 281474976710656 % 256) own code (omega arith) (omega arith) (omega arith) in
       let d = describes_number high (place_of k) own code (place_low k) (omega arith) (omega arith) in
       ap (λ (x : ℕ). described x) n ∙ d ∙ λ i. record { code = code; own = own; kind = kind_back k i; explicit = high % 128; simple = sym s i }
+
+  -- where the octet is a kind's, it comes back
+  pub number_back : octet_of (kind_of (unpacked w).kind) ≡ (unpacked w).kind → entry_number_of (number_of w) ≡ w
+  unfolding unpacked number_of entry_number_of
+  number_back q =
+      let high = w / 72057594037927936 in
+      let k = kind_of (w / 281474976710656 % 256) in
+      let own = w / 4294967296 % 65536 in
+      let code = w % 4294967296 in
+      let n : (high * 256 + place_of k) * 281474976710656 + w % 281474976710656 ≡ number high (place_of k) own code = omega arith in
+      let h : number high (place_of k) own code / 72057594037927936 ≡ high = above_kind high (place_of k) own code (place_low k) (omega arith) (omega arith) in
+      let p : number high (place_of k) own code / 281474976710656 % 256 ≡ place_of k
+      = rw (above_own high (place_of k) own code (place_low k) (omega arith) (omega arith)) (lower high 256 (place_of k) (place_low k)) in
+      let l : number high (place_of k) own code % 281474976710656 ≡ w % 281474976710656 = omega arith in
+      rw (n, h, p, l, kind_back k, q) (omega arith)

@@ -13,7 +13,7 @@ use Rattle.table.specs.Octets.{kind}
 use Rattle.table.specs.Reading.{every_at}
 use Rattle.kinds.specs.Kinds.{octet_of, kind_of}
 use Rattle.records.specs.Entries.{unpacked, tag_count, tag_place, span_of, Entered, WithMembers, WithAlternatives, WithElements, WithNumbers}
-use Rattle.records.specs.Descriptors.{descriptor_of, described, number_of, Describes}
+use Rattle.records.specs.Descriptors.{descriptor_of, described, number_of, entry_number_of, Describes}
 use Rattle.records.specs.declared.entry.Entry.{Entry}
 use Rattle.records.proofs.Entries as entries
 use Rattle.records.proofs.Descriptors as descriptors
@@ -72,3 +72,6 @@ first_described = descriptors.first_described
 
 pub renumbered : (w : ℕ) → described (number_of w) ≡ descriptor_of (unpacked w)
 renumbered = packing.renumbered
+
+pub number_back : (w : ℕ) → octet_of (kind_of (unpacked w).kind) ≡ (unpacked w).kind → entry_number_of (number_of w) ≡ w
+number_back = packing.number_back

@@ -5,10 +5,10 @@ ghost use Rattle.ber.specs.Codes.{code};
 ghost use Rattle.table.specs.Reading.{numbers_at};
 ghost use Rattle.kinds.specs.Kinds.{octet_of};
 ghost use Rattle.kinds.specs.declared.Kind.TheVariants.{Message};
-ghost use Rattle.records.specs.Entries.{unpacked, tag_count, tag_place, counted as Entries·counted, span_of, lists_number};
-ghost use Rattle.records.specs.Descriptors.{descriptor_of, entry_of, described, number_of};
+ghost use Rattle.records.specs.Entries.{tag_count, tag_place, counted as Entries·counted, span_of, lists_number};
+ghost use Rattle.records.specs.Descriptors.{descriptor_of, entry_of, described, number_of, entry_number_of};
 
-use crate::entry::{Entry, LACKING, Span, counted, first, unpack};
+use crate::entry::{Entry, LACKING, Span, counted, unpack};
 use ber::identifier::code_of;
 use kinds::Kind;
 use octets::{holds, octet, two};
@@ -37,16 +37,8 @@ pub fn of(e: Entry) -> Descriptor
     }
 }
 
-// Of a number of the index, which is that of an entry.
-#[inline(always)]
-pub fn of_number(w: u64) -> Descriptor
-    ensures { result ≡ descriptor_of (unpacked w) }
-{
-    of(unpack(w))
-}
-
-// That descriptor as a number, with the place of the kind where its octet stood: a compiler makes the kind of a place by one comparison, and
-// reading and writing take a descriptor apart for every item.
+// The number of the descriptor of an entry, from the entry's number: the place of the kind stands where its octet stood. A compiler makes the
+// kind of a place by one comparison, and the check, reading and writing take a descriptor apart for each record, item and value.
 #[tactic(auto, unfolding(crate::specs::Descriptors::number_of))]
 pub fn number(w: u64) -> u64
     ensures { result ≡ number_of w }
@@ -56,17 +48,28 @@ pub fn number(w: u64) -> u64
     (high * 256 + kind.place() as u64) * 281474976710656 + w % 281474976710656
 }
 
-// The descriptor of such a number.
-#[tactic(auto, unfolding(crate::specs::Descriptors::described, crate::specs::Entries::unpacked))]
+// And back.
+#[tactic(auto, unfolding(crate::specs::Descriptors::entry_number_of))]
+pub fn entry_number(w: u64) -> u64
+    ensures { result ≡ entry_number_of w }
+{
+    let high = w / 72057594037927936;
+    let kind = Kind::at((w / 281474976710656 % 256) as u8);
+    (high * 256 + kind.octet() as u64) * 281474976710656 + w % 281474976710656
+}
+
+// The descriptor of a number that has the place of its kind.
+#[tactic(auto, unfolding(crate::specs::Descriptors::described))]
 pub fn describe(w: u64) -> Descriptor
     ensures { result ≡ described w }
 {
+    let e = unpack(w);
     Descriptor {
-        code: first(w),
-        own: (w / 4294967296 % 65536) as u16,
-        kind: Kind::at((w / 281474976710656 % 256) as u8),
-        explicit: (w / 72057594037927936 % 128) as u8,
-        simple: 9223372036854775808 <= w,
+        code: e.code,
+        own: e.own,
+        kind: Kind::at(e.kind),
+        explicit: e.explicit,
+        simple: e.simple,
     }
 }
 

@@ -1,6 +1,7 @@
 -- The ways through the walk.
 use Rattle.std.proofs.Common.{◌≡◌, ◌+◌, ◌-◌, ◌∙◌, sym, arith}
 use Rattle.table.proofs.Walk.{same_size}
+use Rattle.records.proofs.Promises.{first_described}
 use Rattle.checker.proofs.Alike.{below_none}
 use Rattle.checker.proofs.Gather.{going_from, going_mark, next_in, next_turn, gathered_seen, gathered_met, gathered_alone, gathered_under}
 use Rattle.checker.proofs.Gather.{under_met, under_done, stand_in, stand_in_small, stand_in_within, gathers_of}
@@ -23,7 +24,7 @@ pub gather-returns-then-first-ne-UNTAGGED : goal.gather-returns-then-first-ne-UN
 gather-returns-then-first-ne-UNTAGGED t c =
     let x = gathers_of c.args.w.now.filled c.args.w.now.ready c.args.w.now.named c.told-flags c.requires in
     gathered_alone _ _ _ _ _ (stand_in x) (stand_in_within x) c.if-f-ne0.false (λ z. c.if-f-mark.false (c.if-f-ne0.false ∙ sym z))
-    (below_none (x.filled.entered _ x.there) (λ z. c.if-first-ne-UNTAGGED.true (c.first.ensures ∙ z)))
+    (below_none (x.filled.describes _ x.there).entered (λ z. c.if-first-ne-UNTAGGED.true (c.first.ensures ∙ first_described _ ∙ z)))
 
 pub gather-gather_under-requires : goal.gather-gather_under-requires
 gather-gather_under-requires t c =
@@ -44,7 +45,7 @@ gather_under-loop-at-init t c =
     let q : s.first + s.count - s.first ≡ s.count = omega arith in (
       c.told-flags,
       omega arith,
-      rw q (going_from _ (alternatives_below (gathers_of c.args.w.now.filled c.args.w.now.ready c.args.w.now.named c.told-flags c.requires.0) c.of_number.ensures c.alternatives-s.ensures c.args.w.now.octets c.requires.1)),
+      rw q (going_from _ (alternatives_below (gathers_of c.args.w.now.filled c.args.w.now.ready c.args.w.now.named c.told-flags c.requires.0) c.describe.ensures c.alternatives-s.ensures c.args.w.now.octets c.requires.1)),
     )
 
 pub gather_under-gather-requires : goal.gather_under-gather-requires
@@ -72,4 +73,4 @@ pub gather_under-returns : goal.gather_under-returns
 gather_under-returns t c = under_done _ _ _ _ _ _ _ c.loop-at.invariant.2 (omega arith) c.loop-at.invariant.1
 
 pub gather_under-overflow_add-at-end : goal.gather_under-overflow_add-at-end
-gather_under-overflow_add-at-end t c = rw c.alternatives-s.ensures (omega (arith, c.args.w.now.octets c.of_number.result.own))
+gather_under-overflow_add-at-end t c = rw c.alternatives-s.ensures (omega (arith, c.args.w.now.octets c.describe.result.own))

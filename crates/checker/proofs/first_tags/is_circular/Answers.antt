@@ -2,6 +2,7 @@
 use Rattle.std.proofs.Common.{◌∙◌, replicate, refl, sym}
 use Rattle.table.proofs.Decided.{circular_is}
 use Rattle.table.proofs.Straight.{zeros}
+use Rattle.records.proofs.Promises.{first_described}
 use Rattle.checker.proofs.Alike.{below_none}
 use Rattle.checker.proofs.Rules.{filled_beyond}
 use Rattle.checker.proofs.Shared.{no_circle, circle_end}
@@ -12,7 +13,7 @@ returns-then-first-ne-UNTAGGED c =
     let x = c.args.w.now.filled in
     let r = c.args.w.now.ready in
     let h = c.requires in
-    sym (no_circle _ _ _ (below_none (x.entered _ h) (λ z. c.if-first-ne-UNTAGGED.true (c.first.ensures ∙ z))))
+    sym (no_circle _ _ _ (below_none (x.describes _ h).entered (λ z. c.if-first-ne-UNTAGGED.true (c.first.ensures ∙ first_described _ ∙ z))))
 
 pub gather_under-requires : goal.gather_under-requires
 gather_under-requires c =
