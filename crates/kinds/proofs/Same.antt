@@ -1,14 +1,15 @@
 -- What equality of kinds says of their octets. The octet of a kind is no other's, and a number that is none of them counts as a message's.
 -- Assumes nothing.
-use Rattle.std.proofs.Common.{Bool, true, false, not, ◌||◌, ◌⊎◌, inl, inr, ℕ, List, [], ◌∷◌, ◌≡◌, ◌↔◌, Option, Some, None, ◌<◌, refl, sym, ◌∙◌, ap, eq-eqb, arith}
+use Rattle.std.proofs.Common.{Bool, true, false, not, ◌||◌, ◌⊎◌, inl, inr, ℕ, List, [], ◌∷◌, ◌≡◌, ◌<◌, ◌≤◌, refl, sym, ◌∙◌, ap, eq-eqb, arith}
 use mathlib.Core.Logic.{⊎_elim}
-use mathlib.Core.Bool.{false≢true}
-use Rattle.std.specs.Prelude.{is_some, unwrap_or}
+use Rattle.octets.specs.Lists.{lowest_from}
 use Rattle.octets.proofs.Tests.{test}
+use Rattle.octets.proofs.Search.{upto}
 use denote.Enum.Bare.{sameb}
 use denote.Enum.Declared.{tag_of}
 use borrow.Author.Tests.{ne_eqb, eqb-true, eqb-false, not-true, not-false}
 use lib.Dec.{eqb}
+use lib.ListN.{get_or}
 use Rattle.octets.proofs.Members.{or_right}
 use Rattle.kinds.specs.contracts.Kind.{the_type}
 use Rattle.kinds.specs.declared.Kind.{Kind}
@@ -116,10 +117,36 @@ module _ (n : ℕ) where
       test (eqb n 51) (λ e. rw (eqb-true n 51 e) (inl refl)) λ e.
       ⊎_elim inl (λ m. inr (m, λ k q. eqb-false n 51 e (sym q ∙ ap octet_of (sym (octet_back k) ∙ ap kind_of q ∙ m)))) (among n kinds)
 
-  -- what `of` finds, and a message where it finds none
-  pub or_message : (x : Option Kind) → ((k : Kind) → (x ≡ Some k) ↔ (octet_of k ≡ n)) → unwrap_or x Message ≡ kind_of n
-  or_message (Some k) h = sym (octet_back k) ∙ ap kind_of ((h k).0 refl)
-  or_message None h = ⊎_elim (λ e. absurd (false≢true (ap is_some ((h (kind_of n)).1 e)))) (λ m. sym m.0) counts_as
+-- the place of the kind that each octet counts as, by computing each
+abbrev places : List ℕ
+places =
+    13 ∷ 0 ∷ 1 ∷ 2 ∷ 3 ∷ 4 ∷ 13 ∷ 13 ∷ 13 ∷ 13 ∷ 5 ∷ 13 ∷ 13 ∷ 13 ∷ 13 ∷ 13 ∷ 8 ∷ 9 ∷ 13 ∷ 13 ∷ 13 ∷ 13 ∷ 13 ∷ 6 ∷ 7 ∷ 13 ∷ 13 ∷ 13 ∷ 13 ∷ 13 ∷ 13 ∷ 13 ∷ 13 ∷ 13 ∷ 13 ∷ 13 ∷
+    13 ∷ 13 ∷ 13 ∷ 13 ∷ 13 ∷ 13 ∷ 13 ∷ 13 ∷ 13 ∷ 13 ∷ 13 ∷ 13 ∷ 10 ∷ 11 ∷ 12 ∷ 13 ∷ []
+
+pub placed : (n : ℕ) → n < 52 → kind_at (get_or places n 0) ≡ kind_of n
+unfolding lowest_from kind_at kind_of
+placed n h =
+    same_kind _ _ (eqb-true _ _
+    (not-false _ (upto (λ i. not (eqb (octet_of (kind_at (get_or places i 0))) (octet_of (kind_of i)))) 52 refl n h)))
+
+pub beyond : (n : ℕ) → 52 ≤ n → Message ≡ kind_of n
+beyond n h = ⊎_elim (λ e. absurd (high (kind_of n) e)) (λ m. sym m.0) (counts_as n)
+  where
+    high : (k : Kind) → octet_of k ≡ n → ⊥
+    high Boolean e = omega (arith, e)
+    high Integer e = omega (arith, e)
+    high BitString e = omega (arith, e)
+    high OctetString e = omega (arith, e)
+    high Null e = omega (arith, e)
+    high Enumerated e = omega (arith, e)
+    high UtcTime e = omega (arith, e)
+    high GeneralizedTime e = omega (arith, e)
+    high Sequence e = omega (arith, e)
+    high Set e = omega (arith, e)
+    high SequenceOf e = omega (arith, e)
+    high SetOf e = omega (arith, e)
+    high Choice e = omega (arith, e)
+    high Message e = omega (arith, e)
 
 -- an octet that no kind has is none of theirs
 pub no_octet : (n : ℕ) → ((k : Kind) → octet_of k ≡ n → ⊥)

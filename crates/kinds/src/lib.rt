@@ -32,6 +32,13 @@ pub enum Kind {
 // The identifier octet of each kind's own UNIVERSAL tag: the number in the low five bits, and 32 for constructed. A CHOICE has no tag of its own.
 const IDENTIFIER: [u8; 14] = [1, 2, 3, 4, 5, 10, 23, 24, 48, 49, 48, 49, 32, 32];
 
+// The place of the kind that has each octet; that of a message where none has.
+const PLACE: [u8; 52] = [
+    13, 0, 1, 2, 3, 4, 13, 13, 13, 13, 5, 13, 13, 13, 13, 13, 8, 9, 13, 13, 13, 13, 13, 6, 7, 13,
+    13, 13, 13, 13, 13, 13, 13, 13, 13, 13, 13, 13, 13, 13, 13, 13, 13, 13, 13, 13, 13, 13, 10, 11,
+    12, 13,
+];
+
 impl Kind {
     // Its octet in tables and values.
     pub fn octet(self) -> u8
@@ -55,8 +62,7 @@ impl Kind {
         }
     }
 
-    // The kind that has the octet, if one has. In place, a test of the kind becomes one of the octet.
-    #[inline(always)]
+    // The kind that has the octet, if one has.
     pub fn of(octet: u8) -> Option<Kind>
         ensures { (k : Kind) → (result ≡ Some k) ↔ (octet_of k ≡ octet) }
     {
@@ -109,13 +115,16 @@ impl Kind {
         }
     }
 
-    // The kind that has the octet; a message for an octet that no kind has.
+    // The kind that has the octet; a message for an octet that no kind has. A look-up takes less time than the tests of `of`.
     #[inline(always)]
-    #[tactic(auto, using(crate::proofs::Same::or_message))]
+    #[tactic(auto, using(crate::proofs::Same::placed, crate::proofs::Same::beyond))]
     pub fn or_message(octet: u8) -> Kind
         ensures { result ≡ kind_of octet }
     {
-        Kind::of(octet).unwrap_or(Kind::Message)
+        if octet < 52 {
+            return Kind::at(PLACE[octet as usize]);
+        }
+        Kind::Message
     }
 
     // Whether what it holds is members.
