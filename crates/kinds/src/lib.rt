@@ -9,7 +9,7 @@ ghost use Rattle.kinds.specs.Kinds.{octet_of, place_of, kind_at, kind_of};
 
 use dates::TimeKind;
 
-// In the order of their places, which the index of a table that passed has.
+// In the order of their places.
 #[derive(Clone, Copy, Debug, PartialEq, Eq)]
 pub enum Kind {
     Boolean,
