@@ -1,4 +1,4 @@
--- The index that the check leaves has the entry of each record. The law is for the crates above, which lend an index to the check.
+-- The index that the check fills has the entry of each record. The laws are for `Renumbering`, and for whoever calls `check_into`.
 -- Assumes nothing.
 use mathlib.Core.List.{List, [], ◌∷◌, ◌++◌, map}
 use mathlib.Core.Path.{◌≡◌, refl, ◌∙◌}

@@ -14,7 +14,7 @@ use Rattle.records.specs.Entries.{unpacked, Filled}
 use Rattle.records.specs.Descriptors.{descriptor_of, described, number_of, entry_number_of, Listed}
 use Rattle.records.proofs.Promises.{entered_known, describes, renumbered as number_described, number_back}
 use Rattle.checker.specs.Index.{count_after, index_after, changed, renumbered, restored, described_after}
-use Rattle.checker.proofs.Filled.{index_length, index_filled, filled_after}
+use Rattle.checker.proofs.Filled.{index_length, index_filled}
 
 -- each number is changed once
 module _ (f : ℕ → ℕ) where
